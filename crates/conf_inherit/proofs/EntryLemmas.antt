@@ -1,7 +1,12 @@
 -- What an index of entries answers is what a search of the entries answers.
-use Rattle.std.{proofs.Common.{inr, inl, Bor, ◌≡◌, ◌+◌, ◌≤◌, ◌||◌, ℕ, suc, List, [], ◌∷◌, length, Option, Some, None, option_map, is_some, nat_lt, if◌then◌else◌, Bool, true, false, true≢false, refl, sym, ap, ◌∙◌, subst, arith}, proofs.lemmas.Bool.{or_parts, le-ltb, lt-ltb, cases_Bool}, proofs.lemmas.Slice.Eq.bytes_eq-Decides, specs.List.{IsAmong, push}, specs.Map.update, specs.Option.{option_or, IfSome}, specs.Slice.IsItemAt, specs.Str.bytes_eq}
-use Rattle.serde_json.{specs.Data.{Data, object, Items, no_items, item, Members, no_members, member}, specs.Find.{get, get_member, get_item}, specs.View.{view, items_view}, specs.declared.value.Value.Value, proofs.Views.{get_item_within, get_item_past}}
-use Rattle.conf_inherit.specs.{EntryIndex.{place_if, place_from, lower, lowest, lowest_of, lay_over_found}, Laying.{has_entry, lay_over, lay_over_entry, lay_over_member}}
+use Rattle.std.proofs.Common.{inr, inl, Bor, ◌≡◌, ◌+◌, ◌≤◌, ◌||◌, ℕ, suc, List, [], ◌∷◌, length, Option, Some, None, option_map, is_some, nat_lt, if◌then◌else◌, Bool, true, false, true≢false, refl, sym, ap, ◌∙◌, subst, arith}
+use Rattle.std.proofs.{lemmas.Bool.{or_parts, le-ltb, lt-ltb, cases_Bool}, lemmas.Slice.Eq.bytes_eq-Decides}
+use Rattle.std.specs.{List.{IsAmong, push}, Map.update, Option.{option_or, IfSome}, Slice.IsItemAt, Str.bytes_eq}
+use Rattle.serde_json.specs.{Data.{Data, object, Items, no_items, item, Members, no_members, member}, Find.{get, get_member, get_item}, View.{view, items_view}}
+use Rattle.serde_json.specs.declared.value.Value.{Value}
+use Rattle.serde_json.proofs.Views.{get_item_within, get_item_past}
+use Rattle.conf_inherit.specs.EntryIndex.{place_if, place_from, lower, lowest, lowest_of, lay_over_found}
+use Rattle.conf_inherit.specs.Laying.{has_entry, lay_over, lay_over_entry, lay_over_member}
 use Rattle.conf_inherit.proofs.LayingLemmas.{some_is_none, cases_Option, get_first, same, other, meets, get_other, get_same, differs}
 
 -- ---- the first place of a name

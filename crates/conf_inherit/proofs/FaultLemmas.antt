@@ -1,10 +1,17 @@
 -- A value without a flaw, whose names are all of resolved aliases, is ready to be resolved.
-use Rattle.std.{proofs.Common.{cond, ◌≡◌, ◌&&◌, ◌++◌, inl, inr, ℕ, suc, List, [], ◌∷◌, map, Option, Some, None, is_some, Bool, true, false, true≢false, refl, sym, ap, ◌∙◌, subst, ◌<◌, ◌+◌, ◌⊎◌, Err, arith, ◌||◌, Ok, nat_cmp}, proofs.lemmas.Bool.{or_cases, and_parts, cases_Bool, or_parts, and_cases, and_from}, specs.Prelude.⊤, specs.Borrow.Bor, specs.BTreeMap.{is_at, insert_entry}, specs.Cmp.Lexicographic.slice_cmp, specs.Map.lookup}
-use Rattle.serde_json.{specs.Data.{Data, null, string, array, object, Items, no_items, item, Members, no_members, member, put}, specs.Find.{get_member, get_item}, proofs.Views.{get_member-put, get_member-put_other}}
-use Rattle.conf_tree.{specs.Flaw.{key, index, within, Flaw, Place as Step, here}, specs.Walk.{HasMember, refusal}, specs.declared.fault_kind.FaultKind.TheVariants.{WrongKind, NoSuchAlias, NameClash}}
+use Rattle.std.proofs.Common.{cond, ◌≡◌, ◌&&◌, ◌++◌, inl, inr, ℕ, suc, List, [], ◌∷◌, map, Option, Some, None, is_some, Bool, true, false, true≢false, refl, sym, ap, ◌∙◌, subst, ◌<◌, ◌+◌, ◌⊎◌, Err, arith, ◌||◌, Ok, nat_cmp}
+use Rattle.std.proofs.lemmas.Bool.{or_cases, and_parts, cases_Bool, or_parts, and_cases, and_from}
+use Rattle.std.specs.{Prelude.⊤, Borrow.Bor, BTreeMap.{is_at, insert_entry}, Cmp.Lexicographic.slice_cmp, Map.lookup}
+use Rattle.serde_json.specs.{Data.{Data, null, string, array, object, Items, no_items, item, Members, no_members, member, put}, Find.{get_member, get_item}}
+use Rattle.serde_json.proofs.Views.{get_member-put, get_member-put_other}
+use Rattle.conf_tree.specs.{Flaw.{key, index, within, Flaw, Place as Step, here}, Walk.{HasMember, refusal}}
+use Rattle.conf_tree.specs.declared.fault_kind.FaultKind.TheVariants.{WrongKind, NoSuchAlias, NameClash}
 use Rattle.conf_table.specs.declared.place.Place.{Place}
 use Rattle.conf_table.specs.declared.place.Place.TheVariants as places
-use Rattle.conf_inherit.specs.{FieldPlaces.{place_under, place_of_items, names_alias, names_member_type, lists_members, is_entry}, Names.{entries_of, NoClash}, Flaws.{is_wrong, is_no_entry, is_no_member, is_unknown, own_flaws, base_flaws, inner_flaws, item_flaws, member_flaws, mark, mark_names}, Ready.{Names, IsReady, AreReady, HasReady}, Named.{all_named, all_named_in_items, all_named_in_members, has}, Faults.{Leads, HasEntry, SaysOf, FlawHolds}, Circle.{Mentions, MentionsInItems, MentionsInMembers}, SeenNames.members_named}
+use Rattle.conf_inherit.specs.{FieldPlaces.{place_under, place_of_items, names_alias, names_member_type, lists_members, is_entry}, Names.{entries_of, NoClash}}
+use Rattle.conf_inherit.specs.Flaws.{is_wrong, is_no_entry, is_no_member, is_unknown, own_flaws, base_flaws, inner_flaws, item_flaws, member_flaws, mark, mark_names}
+use Rattle.conf_inherit.specs.{Ready.{Names, IsReady, AreReady, HasReady}, Named.{all_named, all_named_in_items, all_named_in_members, has}}
+use Rattle.conf_inherit.specs.{Faults.{Leads, HasEntry, SaysOf, FlawHolds}, Circle.{Mentions, MentionsInItems, MentionsInMembers}, SeenNames.members_named}
 use Rattle.conf_inherit.proofs.{FieldPlaceLemmas.{list_place, entry_list}, LayingLemmas.{get_other, same, other, meets, stands}}
 
 pub part_empty : {A B : Type 0} (f : A → B) (xs : List A) (ys : List B) → map f xs ++ ys ≡ [] → xs ≡ []

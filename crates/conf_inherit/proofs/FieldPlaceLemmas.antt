@@ -1,9 +1,11 @@
 -- Where some names lead, and what the places of a field type and of a member's value have in common.
-use Rattle.std.{proofs.Common.{inr, inl, ◌≡◌, ℕ, List, Some, true, false, true≢false, refl, sym, subst, bytes_eq}, proofs.lemmas.Bool.cases_Bool, proofs.lemmas.Slice.Eq.bytes_eq-Decides}
+use Rattle.std.proofs.{Common.{inr, inl, ◌≡◌, ℕ, List, Some, true, false, true≢false, refl, sym, subst, bytes_eq}, lemmas.Bool.cases_Bool}
+use Rattle.std.proofs.lemmas.Slice.Eq.{bytes_eq-Decides}
 use Rattle.serde_json.specs.Data.{Data, Members, no_members, member}
-use Rattle.conf_table.{specs.declared.place.Place.Place, specs.Table.{rows_of, entries_of, content_under, place_in}}
+use Rattle.conf_table.specs.{declared.place.Place.Place, Table.{rows_of, entries_of, content_under, place_in}}
 use Rattle.conf_table.specs.declared.place.Place.TheVariants as places
-use Rattle.conf_inherit.specs.{FieldPlaces.{field_place, place_under, place_in_type, place_of_items, names_alias, names_member_type, is_base_name, lists_members, is_entry, inherit_name, field_type_name}, Looks.base_of, Resolution.{trace_name, type_name, aliases_name}}
+use Rattle.conf_inherit.specs.FieldPlaces.{field_place, place_under, place_in_type, place_of_items, names_alias, names_member_type, is_base_name, lists_members, is_entry, inherit_name, field_type_name}
+use Rattle.conf_inherit.specs.{Looks.base_of, Resolution.{trace_name, type_name, aliases_name}}
 use Rattle.conf_tree.specs.Walk.{HasMember}
 
 -- ---- where some names lead

@@ -1,7 +1,14 @@
 -- Objects whose names ascend: what they have at a name, and that their values at all names tell them apart.
-use Rattle.std.{proofs.Common.{◌⊎◌, inr, inl, ◌≡◌, ℕ, List, Some, None, Ordering, Less, Equal, Greater, nat_cmp, is_eq, refl, sym, ap, ◌∙◌, subst, Option, Bool, true, false, true≢false, [], ◌∷◌, ◌++◌, ◌||◌, is_some, bytes_eq}, proofs.lemmas.Bool.{cases_Bool, or_parts}, proofs.lemmas.List.Folds.list_any-append, proofs.lemmas.Cmp.{nat_list_cmp_total, tied_itself}, proofs.lemmas.Map.Text.is_eq-slice_cmp, proofs.lemmas.Slice.Eq.bytes_eq-Decides, specs.Cmp.Lexicographic.slice_cmp, specs.Ordering.{ordering_reverse}, specs.List.list_any}
-use Rattle.serde_json.{specs.Data.{Data, Members, no_members, member, array, Items, put, object, no_items, item}, specs.Find.{get_member, get}, proofs.Views.{get_member-put, get_member-put_other}, specs.View.{view, items_view}, specs.declared.value.Value.Value}
-use Rattle.conf_inherit.specs.{Names.{AllAbove, IsInOrder, join_items, map_items, names_of, join_members, NoClash, properties_of, items_in, entries_of, new_names, entry_values, member_names}, FieldPlaces.{place_under, is_base_name, lists_members}, Looks.{base_of, Entries, no_entry, an_entry}, Laying.{items_below, lay, lay_base, lay_members, lay_over, lay_new, has_entry, lay_new_member, lay_over_entry, lay_over_member, lay_new_entry}}
+use Rattle.std.proofs.Common.{◌⊎◌, inr, inl, ◌≡◌, ℕ, List, Some, None, Ordering, Less, Equal, Greater, nat_cmp, is_eq, refl, sym, ap, ◌∙◌, subst, Option, Bool, true, false, true≢false, [], ◌∷◌, ◌++◌, ◌||◌, is_some, bytes_eq}
+use Rattle.std.proofs.{lemmas.Bool.{cases_Bool, or_parts}, lemmas.List.Folds.list_any-append, lemmas.Cmp.{nat_list_cmp_total, tied_itself}}
+use Rattle.std.proofs.{lemmas.Map.Text.is_eq-slice_cmp, lemmas.Slice.Eq.bytes_eq-Decides}
+use Rattle.std.specs.{Cmp.Lexicographic.slice_cmp, Ordering.ordering_reverse, List.list_any}
+use Rattle.serde_json.specs.{Data.{Data, Members, no_members, member, array, Items, put, object, no_items, item}, Find.{get_member, get}}
+use Rattle.serde_json.proofs.Views.{get_member-put, get_member-put_other}
+use Rattle.serde_json.specs.{View.{view, items_view}, declared.value.Value.Value}
+use Rattle.conf_inherit.specs.Names.{AllAbove, IsInOrder, join_items, map_items, names_of, join_members, NoClash, properties_of, items_in, entries_of, new_names, entry_values, member_names}
+use Rattle.conf_inherit.specs.{FieldPlaces.{place_under, is_base_name, lists_members}, Looks.{base_of, Entries, no_entry, an_entry}}
+use Rattle.conf_inherit.specs.Laying.{items_below, lay, lay_base, lay_members, lay_over, lay_new, has_entry, lay_new_member, lay_over_entry, lay_over_member, lay_new_entry}
 use Rattle.conf_table.specs.declared.place.Place.{Place}
 use Rattle.conf_table.specs.declared.place.Place.TheVariants as places
 use Rattle.conf_tree.specs.Walk.{HasMember}

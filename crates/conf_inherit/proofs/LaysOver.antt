@@ -1,10 +1,18 @@
 -- A value laid over what stands for other values is looked up among itself and those values.
-use Rattle.std.{proofs.Common.{◌≡◌, ℕ, List, [], ◌∷◌, Option, Some, None, Bool, true, false, refl, sym, ap, ◌∙◌, subst, if◌then◌else◌, true≢false, inl, inr, bytes_eq}, proofs.lemmas.Bool.cases_Bool, specs.List.list_any}
-use Rattle.serde_json.{specs.Data.{Data, string, array, object, Items, no_items, item, Members, no_members, member}, specs.Find.get_member}
+use Rattle.std.proofs.Common.{◌≡◌, ℕ, List, [], ◌∷◌, Option, Some, None, Bool, true, false, refl, sym, ap, ◌∙◌, subst, if◌then◌else◌, true≢false, inl, inr, bytes_eq}
+use Rattle.std.proofs.lemmas.Bool.{cases_Bool}
+use Rattle.std.specs.List.{list_any}
+use Rattle.serde_json.specs.{Data.{Data, string, array, object, Items, no_items, item, Members, no_members, member}, Find.get_member}
 use Rattle.conf_table.specs.declared.place.Place.{Place}
 use Rattle.conf_table.specs.declared.place.Place.TheVariants as places
-use Rattle.conf_inherit.specs.{FieldPlaces.{place_under, is_base_name, lists_members, names_alias, names_member_type, field_type_name}, Laying.{lay, has_entry, lay_base, lay_members, lay_over, lay_over_member, lay_new, lay_new_member, members_below, lay_text}, Looks.{Chain, Looks, looks, Entries, no_entry, an_entry, base_of, if_objects, values_at, AreResolved, nothing, alias, member_alias, heir, own, a_list, plain, Shows, a_scalar, an_object, the_members, a_join, if_lists, IsPlain}, Names.{NoClash, properties_of, items_in, entries_of, entry_values, join_items, map_items, IsInOrder, names_of, new_names, cons_some, values_in, member_names, joined}, Ready.{IsReady, AreReady, HasReady, Names}}
-use Rattle.conf_inherit.proofs.{LayingLemmas.{cases_Option, has_found, each_has, Meets, same, other, meets, get_other, get_same, lay_base-own, lay_base-heir, in_order_lay, lay_members-base, lay_members-absent, lay_members-found, AllEntries, all_along, over_entries, over_found, new_entries, entry_found, all_joined, has_entry_names, over_absent, entry_names, entries_joined, found_each, no_values, value_same, some_is_none}, SizeLemmas.{NoLarger, NoLargerItems, as_large, as_large_items, items_through, no_larger_list, no_larger_object, next_value, further_value, turned_items, none_more, joined_behind, joined_larger, item_first, covered}, FieldPlaceLemmas.{base_named, list_place, entry_place, inheriting_place, alias_place, member_value_place, member_type_place, type_is_no_base, alias_field, base_place, SamePlace}}
+use Rattle.conf_inherit.specs.FieldPlaces.{place_under, is_base_name, lists_members, names_alias, names_member_type, field_type_name}
+use Rattle.conf_inherit.specs.Laying.{lay, has_entry, lay_base, lay_members, lay_over, lay_over_member, lay_new, lay_new_member, members_below, lay_text}
+use Rattle.conf_inherit.specs.Looks.{Chain, Looks, looks, Entries, no_entry, an_entry, base_of, if_objects, values_at, AreResolved, nothing, alias, member_alias, heir, own, a_list, plain, Shows, a_scalar, an_object, the_members, a_join, if_lists, IsPlain}
+use Rattle.conf_inherit.specs.Names.{NoClash, properties_of, items_in, entries_of, entry_values, join_items, map_items, IsInOrder, names_of, new_names, cons_some, values_in, member_names, joined}
+use Rattle.conf_inherit.specs.Ready.{IsReady, AreReady, HasReady, Names}
+use Rattle.conf_inherit.proofs.LayingLemmas.{cases_Option, has_found, each_has, Meets, same, other, meets, get_other, get_same, lay_base-own, lay_base-heir, in_order_lay, lay_members-base, lay_members-absent, lay_members-found, AllEntries, all_along, over_entries, over_found, new_entries, entry_found, all_joined, has_entry_names, over_absent, entry_names, entries_joined, found_each, no_values, value_same, some_is_none}
+use Rattle.conf_inherit.proofs.SizeLemmas.{NoLarger, NoLargerItems, as_large, as_large_items, items_through, no_larger_list, no_larger_object, next_value, further_value, turned_items, none_more, joined_behind, joined_larger, item_first, covered}
+use Rattle.conf_inherit.proofs.FieldPlaceLemmas.{base_named, list_place, entry_place, inheriting_place, alias_place, member_value_place, member_type_place, type_is_no_base, alias_field, base_place, SamePlace}
 use Rattle.conf_tree.specs.Walk.{HasMember}
 
 -- what a base stands for: no values, or those that are looked up as it

@@ -1,11 +1,19 @@
 -- What is said of a value whose names are all resolved is said of it too where more aliases are resolved.
-use Rattle.std.{proofs.Common.{if◌then◌else◌, ◌||◌, ◌≡◌, ◌&&◌, ◌++◌, ℕ, suc, List, map, Option, Some, None, is_some, unwrap_or, Bool, true, false, not, refl, ap, ◌∙◌, subst, ◌⊎◌, inl, inr, ◌↔◌, [], ◌∷◌, Result, Ok, Err, nat_lt, true≢false, sym, arith}, proofs.lemmas.Bool.{or_parts, and_parts, cases_Bool, ltb-false}}
-use Rattle.serde_json.{specs.Data.{Data, null, string, array, object, Items, no_items, item, Members, no_members, member, put}, specs.Find.{get, get_member}}
-use Rattle.conf_tree.{specs.Flaw.{key, index, within, Flaw, here}, specs.Walk.{refusal}, specs.declared.fault_kind.FaultKind.FaultKind, specs.declared.fault_kind.FaultKind.TheVariants.{TooDeep, Limit, WrongKind, NoSuchAlias, NameClash}}
+use Rattle.std.proofs.Common.{if◌then◌else◌, ◌||◌, ◌≡◌, ◌&&◌, ◌++◌, ℕ, suc, List, map, Option, Some, None, is_some, unwrap_or, Bool, true, false, not, refl, ap, ◌∙◌, subst, ◌⊎◌, inl, inr, ◌↔◌, [], ◌∷◌, Result, Ok, Err, nat_lt, true≢false, sym, arith}
+use Rattle.std.proofs.lemmas.Bool.{or_parts, and_parts, cases_Bool, ltb-false}
+use Rattle.serde_json.specs.{Data.{Data, null, string, array, object, Items, no_items, item, Members, no_members, member, put}, Find.{get, get_member}}
+use Rattle.conf_tree.specs.{Flaw.{key, index, within, Flaw, here}, Walk.refusal, declared.fault_kind.FaultKind.FaultKind}
+use Rattle.conf_tree.specs.declared.fault_kind.FaultKind.TheVariants.{TooDeep, Limit, WrongKind, NoSuchAlias, NameClash}
 use Rattle.conf_table.specs.declared.place.Place.{Place}
 use Rattle.conf_table.specs.declared.place.Place.TheVariants as places
-use Rattle.conf_inherit.specs.{FieldPlaces.{place_under, place_of_items, names_alias, names_member_type, is_base_name, lists_members, is_entry, field_type_name}, Flaws.{is_wrong, is_unknown, own_flaws, base_flaws, inner_flaws, item_flaws, member_flaws, type_flaws, mark, flaws}, Laying.{members_below, items_below, lay_text, has_entry, lay, lay_base, lay_members, lay_over, lay_over_entry, lay_over_member, lay_new, lay_new_entry, lay_new_member}, Limits.{fitting, passed, limit_flaws, max_values, max_levels, Fits, Exceeds, Inherits, InheritsInItems, InheritsInMembers}, Named.{all_named, all_named_in_items, all_named_in_members, has}, Names.{join_items, map_items}, Faults.Leads, Nesting.nests, Size.size}
-use Rattle.conf_inherit.proofs.{FaultLemmas.{named_along, own_is, same_part, part_empty, rest_empty, front_empty, back_empty, Among, refused_among, IsTold, flaw_holds, first_or_rest}, LayingLemmas.same_function, FieldPlaceLemmas.{list_place, entry_place, base_place, alias_place}}
+use Rattle.conf_inherit.specs.FieldPlaces.{place_under, place_of_items, names_alias, names_member_type, is_base_name, lists_members, is_entry, field_type_name}
+use Rattle.conf_inherit.specs.Flaws.{is_wrong, is_unknown, own_flaws, base_flaws, inner_flaws, item_flaws, member_flaws, type_flaws, mark, flaws}
+use Rattle.conf_inherit.specs.Laying.{members_below, items_below, lay_text, has_entry, lay, lay_base, lay_members, lay_over, lay_over_entry, lay_over_member, lay_new, lay_new_entry, lay_new_member}
+use Rattle.conf_inherit.specs.Limits.{fitting, passed, limit_flaws, max_values, max_levels, Fits, Exceeds, Inherits, InheritsInItems, InheritsInMembers}
+use Rattle.conf_inherit.specs.{Named.{all_named, all_named_in_items, all_named_in_members, has}, Names.{join_items, map_items}, Faults.Leads, Nesting.nests}
+use Rattle.conf_inherit.specs.Size.{size}
+use Rattle.conf_inherit.proofs.FaultLemmas.{named_along, own_is, same_part, part_empty, rest_empty, front_empty, back_empty, Among, refused_among, IsTold, flaw_holds, first_or_rest}
+use Rattle.conf_inherit.proofs.{LayingLemmas.same_function, FieldPlaceLemmas.{list_place, entry_place, base_place, alias_place}}
 use borrow.Author.Tests.{ltb-true}
 
 -- the flaws of a value are the same for aliases of the same names, where those of each value of a `$inherit` are

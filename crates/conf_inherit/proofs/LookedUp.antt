@@ -1,11 +1,18 @@
 -- Values are looked up as at most one.
-use Rattle.std.{proofs.Common.{inr, inl, ◌≡◌, ℕ, List, [], ◌∷◌, Option, Some, None, true, true≢false, refl, sym, ap, ◌∙◌, subst, option_and_then, false, option_map}, proofs.lemmas.Bool.{cases_Bool, or_parts, or_from}}
-use Rattle.serde_json.{specs.Data.{Data, array, object, Items, item, Members, no_members, member, string, no_items, null, boolean, number, put}, specs.Find.{get_member, get}, specs.Written.{has_float, items_have_float, members_have_float}, specs.Read.{number_of, of_json, of_items, of_members, max_depth, read}}
+use Rattle.std.proofs.Common.{inr, inl, ◌≡◌, ℕ, List, [], ◌∷◌, Option, Some, None, true, true≢false, refl, sym, ap, ◌∙◌, subst, option_and_then, false, option_map}
+use Rattle.std.proofs.lemmas.Bool.{cases_Bool, or_parts, or_from}
+use Rattle.serde_json.specs.Data.{Data, array, object, Items, item, Members, no_members, member, string, no_items, null, boolean, number, put}
+use Rattle.serde_json.specs.{Find.{get_member, get}, Written.{has_float, items_have_float, members_have_float}}
+use Rattle.serde_json.specs.Read.{number_of, of_json, of_items, of_members, max_depth, read}
 use Rattle.conf_table.specs.declared.place.Place.{Place}
 use Rattle.conf_table.specs.declared.place.Place.TheVariants as places
-use Rattle.conf_inherit.specs.{FieldPlaces.{place_under, names_alias, names_member_type, is_base_name}, Looks.{Chain, nothing, alias, member_alias, heir, own, a_list, plain, Looks, looks, Shows, a_scalar, an_object, the_members, a_join, Entries, no_entry, an_entry, if_objects, if_lists, values_at, base_of}, Names.{properties_of, items_in, entries_of, join_items, cons_some, values_in, entry_values, joined, NoClash}, Resolution.{members_or_none, trace_name, type_name, aliases_name, aliases_of, Resolves}}
-use Rattle.conf_inherit.proofs.{LayingLemmas.{value_same, each_has, same_members, get_first, get_none, get_other, AllEntries, all_joined, entry_found, in_order_put, put_keeps}, FieldPlaceLemmas.base_named}
-use Rattle.conf_tree.{specs.Order.{IsInOrder, Ascends, ItemsAscend, MembersAscend}, specs.Walk.IsTreeOf}
+use Rattle.conf_inherit.specs.FieldPlaces.{place_under, names_alias, names_member_type, is_base_name}
+use Rattle.conf_inherit.specs.Looks.{Chain, nothing, alias, member_alias, heir, own, a_list, plain, Looks, looks, Shows, a_scalar, an_object, the_members, a_join, Entries, no_entry, an_entry, if_objects, if_lists, values_at, base_of}
+use Rattle.conf_inherit.specs.Names.{properties_of, items_in, entries_of, join_items, cons_some, values_in, entry_values, joined, NoClash}
+use Rattle.conf_inherit.specs.Resolution.{members_or_none, trace_name, type_name, aliases_name, aliases_of, Resolves}
+use Rattle.conf_inherit.proofs.LayingLemmas.{value_same, each_has, same_members, get_first, get_none, get_other, AllEntries, all_joined, entry_found, in_order_put, put_keeps}
+use Rattle.conf_inherit.proofs.FieldPlaceLemmas.{base_named}
+use Rattle.conf_tree.specs.{Order.{IsInOrder, Ascends, ItemsAscend, MembersAscend}, Walk.IsTreeOf}
 use Rattle.json.specs.Json as json
 use Rattle.json.specs.Lex.{tokens}
 

@@ -1,11 +1,22 @@
 -- Where a field type fits, and each value of a `$inherit` in it by itself, each field type in it fits by itself.
-use Rattle.std.{proofs.Common.{◌≡◌, ◌&&◌, ◌⊎◌, inl, inr, ℕ, zero, suc, Bool, true, false, true≢false, List, [], ◌∷◌, Some, None, is_some, refl, sym, subst, ◌++◌, ap, ◌∙◌}, proofs.lemmas.Bool.cases_Bool}
-use Rattle.serde_json.{specs.Data.{Data, array, object, Items, no_items, item, Members, no_members, member}, specs.Find.{get_item, get_member}}
-use Rattle.conf_tree.{specs.Flaw.{Place as Step, key, index, within}, specs.Order.{Ascends, ItemsAscend}, specs.Walk.HasMember}
-use Rattle.conf_table.{specs.declared.place.Place.Place, specs.Table.{rows_of, entries_of, content_under, place_in}}
+use Rattle.std.proofs.Common.{◌≡◌, ◌&&◌, ◌⊎◌, inl, inr, ℕ, zero, suc, Bool, true, false, true≢false, List, [], ◌∷◌, Some, None, is_some, refl, sym, subst, ◌++◌, ap, ◌∙◌}
+use Rattle.std.proofs.lemmas.Bool.{cases_Bool}
+use Rattle.serde_json.specs.{Data.{Data, array, object, Items, no_items, item, Members, no_members, member}, Find.{get_item, get_member}}
+use Rattle.conf_tree.specs.{Flaw.{Place as Step, key, index, within}, Order.{Ascends, ItemsAscend}, Walk.HasMember}
+use Rattle.conf_table.specs.{declared.place.Place.Place, Table.{rows_of, entries_of, content_under, place_in}}
 use Rattle.conf_table.specs.declared.place.Place.TheVariants as places
-use Rattle.conf_inherit.specs.{FieldPlaces.{field_place, place_under, place_of_items, names_alias, names_member_type, is_base_name, lists_members, is_entry, leads_on}, Faults.Leads, Flaws.{is_wrong, is_no_entry, own_flaws, inner_flaws, flaws, type_flaws, mark}, Laying.{lay, lay_base, lay_members, lay_new, lay_new_entry, lay_new_member, has_entry, members_below}, Limits.{Fits, Inherits, InheritsInItems, InheritsInMembers, limit_flaws}, Looks.AreResolved, Named.{all_named, has}, Ready.{Names, IsReady}, Places.{inner_places, item_places, place_flaws}}
-use Rattle.conf_inherit.proofs.{LaysOver.{laid_entry, property_stands, ground_base, grows}, LayingLemmas.{each_has, lay_members-found, found_each, value_same}, FaultLemmas.{named, own_sound, ready, single_entry, front_empty, back_empty, part_empty, rest_empty}, SizeLemmas.{NoLargerItems, as_large, as_large_items, items_through, next_value, further_value, none_more, fits_below, property_fits, item_fits}, LookedUp.{apart, ascending_members}, SoundPlaces.{PartSound, member_sound, item_sound, PlaceSound, member_place, object_places, list_places, extras_there, root_place, place_of_type, place_of_member, IsOutside, under_outside, on_or_ignored, extras_or_ignored}, FieldPlaceLemmas.{list_place, base_place, ignored_under, alias_place, member_value_place, entry_place}, LimitLemmas.{sound_type, alike_inner, alike_limit}}
+use Rattle.conf_inherit.specs.FieldPlaces.{field_place, place_under, place_of_items, names_alias, names_member_type, is_base_name, lists_members, is_entry, leads_on}
+use Rattle.conf_inherit.specs.{Faults.Leads, Flaws.{is_wrong, is_no_entry, own_flaws, inner_flaws, flaws, type_flaws, mark}}
+use Rattle.conf_inherit.specs.Laying.{lay, lay_base, lay_members, lay_new, lay_new_entry, lay_new_member, has_entry, members_below}
+use Rattle.conf_inherit.specs.{Limits.{Fits, Inherits, InheritsInItems, InheritsInMembers, limit_flaws}, Looks.AreResolved, Named.{all_named, has}}
+use Rattle.conf_inherit.specs.{Ready.{Names, IsReady}, Places.{inner_places, item_places, place_flaws}}
+use Rattle.conf_inherit.proofs.{LaysOver.{laid_entry, property_stands, ground_base, grows}, LayingLemmas.{each_has, lay_members-found, found_each, value_same}}
+use Rattle.conf_inherit.proofs.FaultLemmas.{named, own_sound, ready, single_entry, front_empty, back_empty, part_empty, rest_empty}
+use Rattle.conf_inherit.proofs.SizeLemmas.{NoLargerItems, as_large, as_large_items, items_through, next_value, further_value, none_more, fits_below, property_fits, item_fits}
+use Rattle.conf_inherit.proofs.LookedUp.{apart, ascending_members}
+use Rattle.conf_inherit.proofs.SoundPlaces.{PartSound, member_sound, item_sound, PlaceSound, member_place, object_places, list_places, extras_there, root_place, place_of_type, place_of_member, IsOutside, under_outside, on_or_ignored, extras_or_ignored}
+use Rattle.conf_inherit.proofs.FieldPlaceLemmas.{list_place, base_place, ignored_under, alias_place, member_value_place, entry_place}
+use Rattle.conf_inherit.proofs.LimitLemmas.{sound_type, alike_inner, alike_limit}
 
 -- ---- where a path leads to no field type
 

@@ -1,11 +1,15 @@
 -- The resolved aliases, put into what the rest of a configuration is laid to.
-use Rattle.std.{proofs.Common.{inr, inl, ◌≡◌, ℕ, suc, List, ◌++◌, map, None, Ok, true, false, true≢false, bytes_eq, refl, sym, ap, ◌∙◌, subst}, proofs.lemmas.Bool.cases_Bool, proofs.lemmas.Slice.Eq.bytes_eq-Decides}
+use Rattle.std.proofs.Common.{inr, inl, ◌≡◌, ℕ, suc, List, ◌++◌, map, None, Ok, true, false, true≢false, bytes_eq, refl, sym, ap, ◌∙◌, subst}
+use Rattle.std.proofs.{lemmas.Bool.cases_Bool, lemmas.Slice.Eq.bytes_eq-Decides}
 use Rattle.serde_json.specs.Data.{Data, string, array, object, Members, no_members, member, put}
-use Rattle.conf_tree.{specs.Flaw.{key, within}, specs.Reading.◌>>=◌, specs.Walk.refusal}
+use Rattle.conf_tree.specs.{Flaw.{key, within}, Reading.◌>>=◌, Walk.refusal}
 use Rattle.conf_table.specs.declared.place.Place.{Place}
 use Rattle.conf_table.specs.declared.place.Place.TheVariants as places
-use Rattle.conf_inherit.specs.{FieldPlaces.{place_under, names_alias, names_member_type, lists_members}, Laying.{lay, lay_members, lay_text}, Nesting.{members_nest, deep_flaws, deep_member_flaws}, Resolution.{trace_name, type_name, aliases_name, if_shallow}, Whole.{holds_aliases, with_property, in_property, in_object, with_aliases, AreLaid}}
-use Rattle.conf_inherit.proofs.{LayingLemmas.{equal_names, differs, lay_members-first, apart_greater, stands}, SizeLemmas.nests_shallow, TakenLemmas.{on_way, no_base, laid_object}}
+use Rattle.conf_inherit.specs.{FieldPlaces.{place_under, names_alias, names_member_type, lists_members}, Laying.{lay, lay_members, lay_text}}
+use Rattle.conf_inherit.specs.{Nesting.{members_nest, deep_flaws, deep_member_flaws}, Resolution.{trace_name, type_name, aliases_name, if_shallow}}
+use Rattle.conf_inherit.specs.Whole.{holds_aliases, with_property, in_property, in_object, with_aliases, AreLaid}
+use Rattle.conf_inherit.proofs.{LayingLemmas.{equal_names, differs, lay_members-first, apart_greater, stands}, SizeLemmas.nests_shallow}
+use Rattle.conf_inherit.proofs.TakenLemmas.{on_way, no_base, laid_object}
 
 -- ---- the value of one name, where another is put
 

@@ -1,12 +1,29 @@
 -- The kind of a refusal holds at its path.
-use Rattle.std.{proofs.Common.{◌≡◌, ◌<◌, ◌+◌, ◌++◌, ◌⊎◌, inl, inr, ℕ, suc, List, [], ◌∷◌, map, Option, Some, None, option_and_then, Result, Ok, Err, is_some, nat_lt, Bool, true, false, refl, sym, ap, ◌∙◌, subst, arith, ◌&&◌}, specs.Prelude.⊤, proofs.lemmas.Bool.{cases_Bool, true≢false, and_from}}
+use Rattle.std.proofs.Common.{◌≡◌, ◌<◌, ◌+◌, ◌++◌, ◌⊎◌, inl, inr, ℕ, suc, List, [], ◌∷◌, map, Option, Some, None, option_and_then, Result, Ok, Err, is_some, nat_lt, Bool, true, false, refl, sym, ap, ◌∙◌, subst, arith, ◌&&◌}
+use Rattle.std.specs.Prelude.{⊤}
+use Rattle.std.proofs.lemmas.Bool.{cases_Bool, true≢false, and_from}
 use borrow.Author.Tests.{ltb-true}
-use Rattle.serde_json.{specs.Data.{Data, array, object, Items, no_items, item, Members, no_members, member}, specs.Events.{items_len, members_len}, specs.Find.{get, get_member, get_item}}
-use Rattle.conf_tree.{specs.Flaw.{Flaw, key, index, here, within, Place as Step}, specs.Reading.◌>>=◌, specs.Walk.{HasMember, refusal, IsTreeOf}, specs.declared.fault_kind.FaultKind.FaultKind, specs.declared.fault_kind.FaultKind.TheVariants.{InheritCycle, Limit, WrongKind, NoSuchAlias}}
-use Rattle.conf_table.{specs.declared.place.Place.Place, specs.Table.{content_under, entries_of, rows_of, place_in}}
+use Rattle.serde_json.specs.{Data.{Data, array, object, Items, no_items, item, Members, no_members, member}, Events.{items_len, members_len}}
+use Rattle.serde_json.specs.Find.{get, get_member, get_item}
+use Rattle.conf_tree.specs.{Flaw.{Flaw, key, index, here, within, Place as Step}, Reading.◌>>=◌, Walk.{HasMember, refusal, IsTreeOf}}
+use Rattle.conf_tree.specs.{declared.fault_kind.FaultKind.FaultKind, declared.fault_kind.FaultKind.TheVariants.{InheritCycle, Limit, WrongKind, NoSuchAlias}}
+use Rattle.conf_table.specs.{declared.place.Place.Place, Table.{content_under, entries_of, rows_of, place_in}}
 use Rattle.conf_table.specs.declared.place.Place.TheVariants as places
-use Rattle.conf_inherit.specs.{FieldPlaces.{field_place, place_under, place_of_items, names_alias, names_member_type, is_base_name, lists_extra_members, leads_on, lists_members, is_entry}, AliasFlaws.{over_names, first_or_circle, alias_flaws, all_alias_flaws}, Circle.Walks, SameFlaw.is_same_flaw, Faults.{Passes, FlawHolds, RefusalHolds, Leads, HasEntry, Clashes, ListsTooMany, Tells}, Flaws.{own_flaws, flaws, type_flaws, mark}, Looks.{AreResolved, Looks}, Ready.Names, Places.{too_many, place_flaws, inner_places, item_places, member_places, max_extra_members}, Laying.lay, Names.NoClash, Resolution.{members_or_none, trace_name, type_name, aliases_name, aliases_of, in_aliases, from_aliases, if_shallow, resolution, Resolves}, Nesting.{deep_flaws, PassesDepth}, Named.{all_named, has}, Rounds.Outcomes, Limits.{Exceeds, fitting, limit_flaws}}
-use Rattle.conf_inherit.proofs.{SizeLemmas.{deep_holds, depth_excluded}, SoundPlaces.{place_of_type, place_of_member, place_of_list, place_of_other, too_many_excluded, flawless, PartSound, part_sound, member_sound, item_sound, SoundAt, sound_along}, RoundLemmas.{rounds_of, TreeSound, tree_sound, laid_resolves, resolution_sound, no_flaws, circle_refused, rounds_resolved, rounds_reached, all_done}, LimitLemmas.{past_at, judged, apart_fits}, FieldPlaceLemmas.{trace_place, trace_type_place, aliases_place, alias_field, base_place, list_place}, FaultLemmas.{own_sound, Among, refused_among, BasesHold, holds_told, among_within, holds_in_object, entry_holds, of_itself, flaw_holds, first_or_rest, Aligned, aligned_here, aligned_next, Seen, seen_next_at, none_seen, ready, only}, LayingLemmas.{has_found, AllEntries, found_each}, TurnLemmas.{IsOpen, rounds_open}, LaysOver.lays, LookedUp.{one_look, both_there, read_in_order, aliases_apart}, PlacesFit.{sound_named, all_fit}}
+use Rattle.conf_inherit.specs.FieldPlaces.{field_place, place_under, place_of_items, names_alias, names_member_type, is_base_name, lists_extra_members, leads_on, lists_members, is_entry}
+use Rattle.conf_inherit.specs.{AliasFlaws.{over_names, first_or_circle, alias_flaws, all_alias_flaws}, Circle.Walks, SameFlaw.is_same_flaw}
+use Rattle.conf_inherit.specs.Faults.{Passes, FlawHolds, RefusalHolds, Leads, HasEntry, Clashes, ListsTooMany, Tells}
+use Rattle.conf_inherit.specs.{Flaws.{own_flaws, flaws, type_flaws, mark}, Looks.{AreResolved, Looks}, Ready.Names}
+use Rattle.conf_inherit.specs.{Places.{too_many, place_flaws, inner_places, item_places, member_places, max_extra_members}, Laying.lay, Names.NoClash}
+use Rattle.conf_inherit.specs.Resolution.{members_or_none, trace_name, type_name, aliases_name, aliases_of, in_aliases, from_aliases, if_shallow, resolution, Resolves}
+use Rattle.conf_inherit.specs.{Nesting.{deep_flaws, PassesDepth}, Named.{all_named, has}, Rounds.Outcomes, Limits.{Exceeds, fitting, limit_flaws}}
+use Rattle.conf_inherit.proofs.SizeLemmas.{deep_holds, depth_excluded}
+use Rattle.conf_inherit.proofs.SoundPlaces.{place_of_type, place_of_member, place_of_list, place_of_other, too_many_excluded, flawless, PartSound, part_sound, member_sound, item_sound, SoundAt, sound_along}
+use Rattle.conf_inherit.proofs.RoundLemmas.{rounds_of, TreeSound, tree_sound, laid_resolves, resolution_sound, no_flaws, circle_refused, rounds_resolved, rounds_reached, all_done}
+use Rattle.conf_inherit.proofs.LimitLemmas.{past_at, judged, apart_fits}
+use Rattle.conf_inherit.proofs.FieldPlaceLemmas.{trace_place, trace_type_place, aliases_place, alias_field, base_place, list_place}
+use Rattle.conf_inherit.proofs.FaultLemmas.{own_sound, Among, refused_among, BasesHold, holds_told, among_within, holds_in_object, entry_holds, of_itself, flaw_holds, first_or_rest, Aligned, aligned_here, aligned_next, Seen, seen_next_at, none_seen, ready, only}
+use Rattle.conf_inherit.proofs.{LayingLemmas.{has_found, AllEntries, found_each}, TurnLemmas.{IsOpen, rounds_open}, LaysOver.lays}
+use Rattle.conf_inherit.proofs.{LookedUp.{one_look, both_there, read_in_order, aliases_apart}, PlacesFit.{sound_named, all_fit}}
 
 module _ (al : Members) where
   -- a limit that a value passes holds at it

@@ -1,11 +1,24 @@
 -- What the rounds over the aliases leave: resolved aliases are what they are looked up as, and an alias with no
 -- outcome starts a walk as long as there were rounds.
-use Rattle.std.{proofs.Common.{◌≡◌, ◌&&◌, ◌||◌, ◌++◌, inl, inr, ℕ, zero, suc, List, [], ◌∷◌, Option, Some, None, Result, Ok, Err, is_some, Bool, true, false, not, true≢false, refl, sym, ap, ◌∙◌, subst, ◌+◌, ◌≤◌, String, Global, Less, string_cmp, string_bytes, arith, ◌<◌, if◌then◌else◌}, proofs.lemmas.Bool.{and_parts, cases_Bool, or_parts, or_left, or_right}, specs.Prelude.⊤, specs.List.AllByRecursion, specs.List.Sorted.IsStrictlySortedBy, specs.Map.keys_of}
-use Rattle.serde_json.{specs.Data.{Data, null, Members, no_members, member, put}, specs.Find.get_member, proofs.Views.{get_member-put_other, Entry}, specs.View.members_view, specs.Events.members_len}
-use Rattle.conf_tree.{specs.Flaw.{Flaw, key, within}, specs.Walk.refusal, specs.declared.fault_kind.FaultKind.FaultKind, specs.Reading.◌>>=◌}
+use Rattle.std.proofs.Common.{◌≡◌, ◌&&◌, ◌||◌, ◌++◌, inl, inr, ℕ, zero, suc, List, [], ◌∷◌, Option, Some, None, Result, Ok, Err, is_some, Bool, true, false, not, true≢false, refl, sym, ap, ◌∙◌, subst, ◌+◌, ◌≤◌, String, Global, Less, string_cmp, string_bytes, arith, ◌<◌, if◌then◌else◌}
+use Rattle.std.proofs.lemmas.Bool.{and_parts, cases_Bool, or_parts, or_left, or_right}
+use Rattle.std.specs.{Prelude.⊤, List.AllByRecursion, List.Sorted.IsStrictlySortedBy, Map.keys_of}
+use Rattle.serde_json.specs.{Data.{Data, null, Members, no_members, member, put}, Find.get_member}
+use Rattle.serde_json.proofs.Views.{get_member-put_other, Entry}
+use Rattle.serde_json.specs.{View.members_view, Events.members_len}
+use Rattle.conf_tree.specs.{Flaw.{Flaw, key, within}, Walk.refusal, declared.fault_kind.FaultKind.FaultKind, Reading.◌>>=◌}
 use Rattle.conf_table.specs.declared.place.Place.TheVariants as places
-use Rattle.conf_inherit.specs.{AliasFlaws.{over_names, first_or_circle, alias_flaws, all_alias_flaws}, Flaws.{flaws, own_flaws, inner_flaws, type_flaws}, Laying.lay, Limits.{fitting, passed, limit_flaws}, Looks.{Looks, AreResolved}, Named.{all_named, has}, Rounds.{Outcomes, has_outcome, is_over, is_empty, if_fitting, outcome, concluded, step, round, all_over, rounds, no_outcomes, Reached, at_first, turned}, SameFlaw.is_same_flaw, Names.{AllAbove, NoClash}, Nesting.{nests, deep_flaws}, Resolution.{aliases_of, Resolves, from_aliases, if_shallow, resolution_after, resolution_under, resolution}, Places.inner_places, Circle.{Mentions, Walks}}
-use Rattle.conf_inherit.proofs.{LimitLemmas.{kept_flaws, fitting_value}, LayingLemmas.{some_is_none, Meets, same, other, meets, put_found, AllEntries, entry_found, get_none, found_each, get_other}, LaysOver.lays, FaultLemmas.{named, named_along, blocked, mentioned, is_still, is_put, ready, part_empty, rest_empty, front_empty, back_empty, some_of}, SizeLemmas.shallow_nests, SoundPlaces.flawless}
+use Rattle.conf_inherit.specs.{AliasFlaws.{over_names, first_or_circle, alias_flaws, all_alias_flaws}, Flaws.{flaws, own_flaws, inner_flaws, type_flaws}}
+use Rattle.conf_inherit.specs.{Laying.lay, Limits.{fitting, passed, limit_flaws}, Looks.{Looks, AreResolved}, Named.{all_named, has}}
+use Rattle.conf_inherit.specs.Rounds.{Outcomes, has_outcome, is_over, is_empty, if_fitting, outcome, concluded, step, round, all_over, rounds, no_outcomes, Reached, at_first, turned}
+use Rattle.conf_inherit.specs.{SameFlaw.is_same_flaw, Names.{AllAbove, NoClash}, Nesting.{nests, deep_flaws}}
+use Rattle.conf_inherit.specs.{Resolution.{aliases_of, Resolves, from_aliases, if_shallow, resolution_after, resolution_under, resolution}, Places.inner_places}
+use Rattle.conf_inherit.specs.Circle.{Mentions, Walks}
+use Rattle.conf_inherit.proofs.LimitLemmas.{kept_flaws, fitting_value}
+use Rattle.conf_inherit.proofs.LayingLemmas.{some_is_none, Meets, same, other, meets, put_found, AllEntries, entry_found, get_none, found_each, get_other}
+use Rattle.conf_inherit.proofs.LaysOver.{lays}
+use Rattle.conf_inherit.proofs.FaultLemmas.{named, named_along, blocked, mentioned, is_still, is_put, ready, part_empty, rest_empty, front_empty, back_empty, some_of}
+use Rattle.conf_inherit.proofs.{SizeLemmas.shallow_nests, SoundPlaces.flawless}
 
 pub empty_flaws : (fs : List Flaw) → is_empty fs ≡ true → fs ≡ []
 empty_flaws [] h = refl

@@ -1,10 +1,19 @@
 -- Counting: the parts of a whole, and what a limit leaves.
-use Rattle.std.{proofs.Common.{inr, inl, ◌≡◌, ◌+◌, ◌<◌, ◌≤◌, ◌++◌, ℕ, List, [], ◌∷◌, length, drop, get_or, Option, Some, None, Bool, true, false, string_bytes, refl, sym, ap, ◌∙◌, subst, arith, ◌&&◌, zero, suc, true≢false, max, ◌↔◌, map}, proofs.lemmas.Bool.{and_from, and_parts, cases_Bool}, proofs.lemmas.List.at_drop_more}
-use Rattle.serde_json.{specs.Data.{Data, array, object, Items, no_items, item, Members, no_members, member, put, depth, items_depth, members_depth}, specs.Find.{get_member, get_item}, specs.View.{view, items_view, members_view}, proofs.Views.Entry, specs.declared.value.Value.Value}
-use Rattle.conf_inherit.specs.{declared.size.Stop.Stop, declared.size.Stop.TheVariants.{Memory, Limit}, FieldPlaces.{place_under, is_base_name, lists_members}, Laying.{lay, has_entry, items_below, lay_members, lay_over, lay_new, lay_new_entry, lay_new_member}, Names.{NoClash, join_items, map_items, IsInOrder}, Size.{size, items_size, members_size, Within, Leaves, IsDue}, Limits.Fits, Nesting.{nests, items_nest, members_nest, deep_flaws, deep_item_flaws, deep_member_flaws, PassesDepth}}
+use Rattle.std.proofs.Common.{inr, inl, ◌≡◌, ◌+◌, ◌<◌, ◌≤◌, ◌++◌, ℕ, List, [], ◌∷◌, length, drop, get_or, Option, Some, None, Bool, true, false, string_bytes, refl, sym, ap, ◌∙◌, subst, arith, ◌&&◌, zero, suc, true≢false, max, ◌↔◌, map}
+use Rattle.std.proofs.{lemmas.Bool.{and_from, and_parts, cases_Bool}, lemmas.List.at_drop_more}
+use Rattle.serde_json.specs.Data.{Data, array, object, Items, no_items, item, Members, no_members, member, put, depth, items_depth, members_depth}
+use Rattle.serde_json.specs.{Find.{get_member, get_item}, View.{view, items_view, members_view}}
+use Rattle.serde_json.proofs.Views.{Entry}
+use Rattle.serde_json.specs.declared.value.Value.{Value}
+use Rattle.conf_inherit.specs.{declared.size.Stop.Stop, declared.size.Stop.TheVariants.{Memory, Limit}, FieldPlaces.{place_under, is_base_name, lists_members}}
+use Rattle.conf_inherit.specs.Laying.{lay, has_entry, items_below, lay_members, lay_over, lay_new, lay_new_entry, lay_new_member}
+use Rattle.conf_inherit.specs.{Names.{NoClash, join_items, map_items, IsInOrder}, Size.{size, items_size, members_size, Within, Leaves, IsDue}, Limits.Fits}
+use Rattle.conf_inherit.specs.Nesting.{nests, items_nest, members_nest, deep_flaws, deep_item_flaws, deep_member_flaws, PassesDepth}
 use Rattle.conf_table.specs.declared.place.Place.{Place}
-use Rattle.conf_inherit.proofs.{LayingLemmas.{AllEntries, found_each, same, other, meets, get_other, get_same, lay_members-found, get_first, get_none, equal_names, above_turned, above_through, some_is_none, value_same, stands, put_keeps}, FaultLemmas.{Among, only, among_within, first_or_rest, Aligned, aligned_here, aligned_next, part_empty, rest_empty}}
-use Rattle.conf_tree.{specs.Flaw.{Flaw, Place as Step, key, index, here, within}, specs.Walk.{HasMember, LeadsTo, IsNested}, specs.declared.fault_kind.FaultKind.TheVariants.TooDeep}
+use Rattle.conf_inherit.proofs.LayingLemmas.{AllEntries, found_each, same, other, meets, get_other, get_same, lay_members-found, get_first, get_none, equal_names, above_turned, above_through, some_is_none, value_same, stands, put_keeps}
+use Rattle.conf_inherit.proofs.FaultLemmas.{Among, only, among_within, first_or_rest, Aligned, aligned_here, aligned_next, part_empty, rest_empty}
+use Rattle.conf_tree.specs.{Flaw.{Flaw, Place as Step, key, index, here, within}, Walk.{HasMember, LeadsTo, IsNested}}
+use Rattle.conf_tree.specs.declared.fault_kind.FaultKind.TheVariants.{TooDeep}
 
 -- ---- what a limit leaves
 

@@ -1,10 +1,18 @@
 -- What is wrong at a place of field types, part by part.
-use Rattle.std.{proofs.Common.{◌≡◌, ◌++◌, ◌<◌, ◌≤◌, ℕ, List, [], length, nat_lt, true, false, Ok, Err, refl, arith, ◌&&◌, zero, suc, Bool, cond, ◌∷◌, map, Some, None, is_some, inl, inr, sym, subst, ◌⊎◌, ap, ◌∙◌, true≢false, Vec, Global}, proofs.lemmas.Bool.{le-ltb, lt-ltb, cases_Bool, ltb-false}}
-use Rattle.serde_json.{specs.Data.{Data, array, Members, null, object, Items, no_items, item, no_members, member, put, string}, specs.View.view, specs.declared.value.Value.{Value, Array}, proofs.Views.{items_len-items_view, view-Array}, specs.Find.{get_item, get_member}, specs.Events.items_len}
-use Rattle.conf_tree.{specs.Flaw.{here, Flaw, Place as Step, key, index, within}, specs.Walk.{refusal, HasMember}, specs.declared.fault_kind.FaultKind.TheVariants.Limit}
-use Rattle.conf_table.{specs.declared.place.Place.Place, specs.Table.{rows_of, entries_of, place_in, content_under}}
-use Rattle.conf_inherit.specs.{FieldPlaces.{names_alias, names_member_type, lists_extra_members, place_under, place_of_items, is_entry, field_place, leads_on, lists_members}, Flaws.{own_flaws, type_flaws, is_wrong, is_unknown, mark_names, mark, base_flaws, inner_flaws, item_flaws, member_flaws, flaws}, Limits.limit_flaws, Places.{too_many, place_flaws, max_extra_members, inner_places, item_places, member_places}, Faults.{Leads, HasEntry, ListsTooMany}, Named.has}
-use Rattle.conf_inherit.proofs.{FaultLemmas.{member_parts, item_parts, is_still, is_put, front_empty, back_empty, part_empty, rest_empty}, FieldPlaceLemmas.ignored_under, WorkedPlaces.{true_under, under_place}, LimitLemmas.{both_empty, alike_inner, sound_type}}
+use Rattle.std.proofs.Common.{◌≡◌, ◌++◌, ◌<◌, ◌≤◌, ℕ, List, [], length, nat_lt, true, false, Ok, Err, refl, arith, ◌&&◌, zero, suc, Bool, cond, ◌∷◌, map, Some, None, is_some, inl, inr, sym, subst, ◌⊎◌, ap, ◌∙◌, true≢false, Vec, Global}
+use Rattle.std.proofs.lemmas.Bool.{le-ltb, lt-ltb, cases_Bool, ltb-false}
+use Rattle.serde_json.specs.{Data.{Data, array, Members, null, object, Items, no_items, item, no_members, member, put, string}, View.view}
+use Rattle.serde_json.specs.declared.value.Value.{Value, Array}
+use Rattle.serde_json.proofs.Views.{items_len-items_view, view-Array}
+use Rattle.serde_json.specs.{Find.{get_item, get_member}, Events.items_len}
+use Rattle.conf_tree.specs.{Flaw.{here, Flaw, Place as Step, key, index, within}, Walk.{refusal, HasMember}, declared.fault_kind.FaultKind.TheVariants.Limit}
+use Rattle.conf_table.specs.{declared.place.Place.Place, Table.{rows_of, entries_of, place_in, content_under}}
+use Rattle.conf_inherit.specs.FieldPlaces.{names_alias, names_member_type, lists_extra_members, place_under, place_of_items, is_entry, field_place, leads_on, lists_members}
+use Rattle.conf_inherit.specs.Flaws.{own_flaws, type_flaws, is_wrong, is_unknown, mark_names, mark, base_flaws, inner_flaws, item_flaws, member_flaws, flaws}
+use Rattle.conf_inherit.specs.{Limits.limit_flaws, Places.{too_many, place_flaws, max_extra_members, inner_places, item_places, member_places}}
+use Rattle.conf_inherit.specs.{Faults.{Leads, HasEntry, ListsTooMany}, Named.has}
+use Rattle.conf_inherit.proofs.FaultLemmas.{member_parts, item_parts, is_still, is_put, front_empty, back_empty, part_empty, rest_empty}
+use Rattle.conf_inherit.proofs.{FieldPlaceLemmas.ignored_under, WorkedPlaces.{true_under, under_place}, LimitLemmas.{both_empty, alike_inner, sound_type}}
 use Rattle.conf_table.specs.declared.place.Place.TheVariants as places
 
 pub count_past : (v : Value) (vs : Vec Value Global) → v ≡ Array vs → 256 < length vs.items → refusal (too_many (view v)) ≡ Err (here Limit)

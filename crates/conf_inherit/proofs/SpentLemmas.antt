@@ -1,9 +1,20 @@
 -- A property whose value is written anew.
-use Rattle.std.{proofs.Common.{◌≡◌, ℕ, Some, None, List, [], ◌∷◌, string_cmp, string_bytes, nat_cmp, refl, sym, ap, ◌∙◌, ◌+◌, ◌&&◌, ◌||◌, ◌++◌, ◌⊎◌, inl, inr, suc, map, Option, is_some, Bool, true, false, not, true≢false, bytes_eq, if◌then◌else◌, is_eq, subst, arith, rules}, specs.BTreeMap.is_at, specs.Cmp.Lexicographic.slice_cmp, specs.List.Sorted.IsStrictlySortedBy, specs.Map.{keys_of, set_value}, proofs.lemmas.Bool.{cases_Bool, or_left}, proofs.lemmas.Slice.Eq.bytes_eq-Decides, proofs.lemmas.Map.Text.is_eq-slice_cmp}
-use Rattle.serde_json.{specs.Data.{Data, member, put, null, array, object, Items, no_items, item, Members, no_members}, specs.Find.get_member, specs.View.{view, members_view}, specs.declared.value.Value.{Value, Null, the_lemmas}, proofs.Views.Entry, specs.Events.members_len}
-use Rattle.conf_inherit.specs.{Names.{AllAbove, NoClash}, FieldPlaces.{place_under, place_of_items, lists_extra_members, leads_on}, AliasFlaws.{over_names, alias_flaws, all_alias_flaws}, Flaws.{own_flaws, flaws, type_flaws, mark}, Laying.lay, Limits.{fitting, limit_flaws}, Named.{all_named, has}, Places.{place_flaws, inner_places, item_places, member_places}, Rounds.{Outcomes, has_outcome, is_over, is_empty, if_fitting, outcome, concluded, step, round, rounds, no_outcomes, Reached, at_first, turned, is_settled, all_settled}, Spent.{Spends, spent, TurnsLeave}}
-use Rattle.conf_inherit.proofs.{LayingLemmas.{above_through, get_none, Meets, same, other, meets, get_other, get_same, same_function, stands, some_is_none}, RoundLemmas.{above_of, by_turn}, TurnLemmas.{Follows, follows_round, turns_are_rounds, is_settled_state}, FaultLemmas.{same_part, is_still, all_pass}, LimitLemmas.{alike_own, alike_flaws}}
-use Rattle.conf_tree.{specs.Flaw.{key, index, within}}
+use Rattle.std.proofs.Common.{◌≡◌, ℕ, Some, None, List, [], ◌∷◌, string_cmp, string_bytes, nat_cmp, refl, sym, ap, ◌∙◌, ◌+◌, ◌&&◌, ◌||◌, ◌++◌, ◌⊎◌, inl, inr, suc, map, Option, is_some, Bool, true, false, not, true≢false, bytes_eq, if◌then◌else◌, is_eq, subst, arith, rules}
+use Rattle.std.specs.{BTreeMap.is_at, Cmp.Lexicographic.slice_cmp, List.Sorted.IsStrictlySortedBy, Map.{keys_of, set_value}}
+use Rattle.std.proofs.{lemmas.Bool.{cases_Bool, or_left}, lemmas.Slice.Eq.bytes_eq-Decides, lemmas.Map.Text.is_eq-slice_cmp}
+use Rattle.serde_json.specs.{Data.{Data, member, put, null, array, object, Items, no_items, item, Members, no_members}, Find.get_member}
+use Rattle.serde_json.specs.{View.{view, members_view}, declared.value.Value.{Value, Null, the_lemmas}}
+use Rattle.serde_json.proofs.Views.{Entry}
+use Rattle.serde_json.specs.Events.{members_len}
+use Rattle.conf_inherit.specs.{Names.{AllAbove, NoClash}, FieldPlaces.{place_under, place_of_items, lists_extra_members, leads_on}}
+use Rattle.conf_inherit.specs.{AliasFlaws.{over_names, alias_flaws, all_alias_flaws}, Flaws.{own_flaws, flaws, type_flaws, mark}, Laying.lay}
+use Rattle.conf_inherit.specs.{Limits.{fitting, limit_flaws}, Named.{all_named, has}, Places.{place_flaws, inner_places, item_places, member_places}}
+use Rattle.conf_inherit.specs.Rounds.{Outcomes, has_outcome, is_over, is_empty, if_fitting, outcome, concluded, step, round, rounds, no_outcomes, Reached, at_first, turned, is_settled, all_settled}
+use Rattle.conf_inherit.specs.Spent.{Spends, spent, TurnsLeave}
+use Rattle.conf_inherit.proofs.LayingLemmas.{above_through, get_none, Meets, same, other, meets, get_other, get_same, same_function, stands, some_is_none}
+use Rattle.conf_inherit.proofs.{RoundLemmas.{above_of, by_turn}, TurnLemmas.{Follows, follows_round, turns_are_rounds, is_settled_state}}
+use Rattle.conf_inherit.proofs.{FaultLemmas.{same_part, is_still, all_pass}, LimitLemmas.{alike_own, alike_flaws}}
+use Rattle.conf_tree.specs.Flaw.{key, index, within}
 use Rattle.conf_table.specs.declared.place.Place.{Place}
 use Rattle.conf_table.specs.declared.place.Place.TheVariants as places
 

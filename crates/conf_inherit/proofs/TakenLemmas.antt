@@ -1,11 +1,25 @@
 -- The aliases of a configuration: that each was resolved as it is laid, and is sound.
-use Rattle.std.{proofs.Common.{string_bytes, is_eq, ◌≡◌, ◌+◌, ◌++◌, ℕ, List, [], map, Option, Some, None, Result, Ok, Err, is_some, Bool, true, false, true≢false, refl, sym, ap, ◌∙◌, subst, ◌⊎◌, inl, inr, String, Vec, Global, rules, if◌then◌else◌, ◌∷◌, option_and_then, nat_cmp}, proofs.lemmas.Bool.{cases_Bool, or_left}, specs.Prelude.⊤, specs.Str.bytes_eq, specs.Cmp.Lexicographic.slice_cmp, proofs.lemmas.Slice.Eq.bytes_eq-Decides, proofs.lemmas.Map.Text.is_eq-slice_cmp}
-use Rattle.serde_json.{specs.Data.{Data, null, object, Members, no_members, member}, specs.Find.{get_member, get, as_object}, specs.View.{view, members_view}, specs.declared.number.Number.Number, specs.declared.value.Value.{Value, the_lemmas}, proofs.Views.Entry}
-use Rattle.conf_tree.{specs.Flaw.{Flaw, key, within}, specs.Walk.refusal, specs.Reading.◌>>=◌}
-use Rattle.conf_table.{specs.declared.place.Place.Place, specs.Table.{rows_of, entries_of, content_under, place_in}}
+use Rattle.std.proofs.Common.{string_bytes, is_eq, ◌≡◌, ◌+◌, ◌++◌, ℕ, List, [], map, Option, Some, None, Result, Ok, Err, is_some, Bool, true, false, true≢false, refl, sym, ap, ◌∙◌, subst, ◌⊎◌, inl, inr, String, Vec, Global, rules, if◌then◌else◌, ◌∷◌, option_and_then, nat_cmp}
+use Rattle.std.proofs.lemmas.Bool.{cases_Bool, or_left}
+use Rattle.std.specs.{Prelude.⊤, Str.bytes_eq, Cmp.Lexicographic.slice_cmp}
+use Rattle.std.proofs.{lemmas.Slice.Eq.bytes_eq-Decides, lemmas.Map.Text.is_eq-slice_cmp}
+use Rattle.serde_json.specs.{Data.{Data, null, object, Members, no_members, member}, Find.{get_member, get, as_object}, View.{view, members_view}}
+use Rattle.serde_json.specs.{declared.number.Number.Number, declared.value.Value.{Value, the_lemmas}}
+use Rattle.serde_json.proofs.Views.{Entry}
+use Rattle.conf_tree.specs.{Flaw.{Flaw, key, within}, Walk.refusal, Reading.◌>>=◌}
+use Rattle.conf_table.specs.{declared.place.Place.Place, Table.{rows_of, entries_of, content_under, place_in}}
 use Rattle.conf_table.specs.declared.place.Place.TheVariants as places
-use Rattle.conf_inherit.specs.{AliasFlaws.all_alias_flaws, Flaws.type_flaws, Laying.{lay, lay_base, lay_members}, Limits.limit_flaws, Named.has, Names.NoClash, Places.{place_flaws, inner_places, member_places}, Resolution.{trace_name, type_name, aliases_name, from_aliases, aliases_of, members_or_none, if_shallow, resolution_after}, Rounds.{Outcomes, has_outcome, outcome, rounds, no_outcomes, Reached}, FieldPlaces.{field_place, place_under, names_alias, is_base_name, lists_extra_members, leads_on, names_member_type}, Whole.{holds_aliases, way_to_aliases, AreLaid, aliases_at, with_property, in_property, in_object, with_aliases}, Spent.Spends}
-use Rattle.conf_inherit.proofs.{FieldPlaceLemmas.{trace_place, trace_type_place, aliases_place}, LayingLemmas.{differs, cases_Option, value_same, same_members, in_order_lay, lay_members-absent, lay_members-found, same, other, meets, get_other, get_same, AllEntries, all_along, found_each}, LimitLemmas.fitting_value, SoundPlaces.place_of_type, FaultLemmas.some_of, RoundLemmas.{no_flaws, outcome_is, all_done, rounds_reached}, TurnLemmas.reached_sound, SpentLemmas.{written, same_names, same_alias_flaws, same_places}}
+use Rattle.conf_inherit.specs.{AliasFlaws.all_alias_flaws, Flaws.type_flaws, Laying.{lay, lay_base, lay_members}, Limits.limit_flaws, Named.has, Names.NoClash}
+use Rattle.conf_inherit.specs.Places.{place_flaws, inner_places, member_places}
+use Rattle.conf_inherit.specs.Resolution.{trace_name, type_name, aliases_name, from_aliases, aliases_of, members_or_none, if_shallow, resolution_after}
+use Rattle.conf_inherit.specs.Rounds.{Outcomes, has_outcome, outcome, rounds, no_outcomes, Reached}
+use Rattle.conf_inherit.specs.FieldPlaces.{field_place, place_under, names_alias, is_base_name, lists_extra_members, leads_on, names_member_type}
+use Rattle.conf_inherit.specs.{Whole.{holds_aliases, way_to_aliases, AreLaid, aliases_at, with_property, in_property, in_object, with_aliases}, Spent.Spends}
+use Rattle.conf_inherit.proofs.FieldPlaceLemmas.{trace_place, trace_type_place, aliases_place}
+use Rattle.conf_inherit.proofs.LayingLemmas.{differs, cases_Option, value_same, same_members, in_order_lay, lay_members-absent, lay_members-found, same, other, meets, get_other, get_same, AllEntries, all_along, found_each}
+use Rattle.conf_inherit.proofs.{LimitLemmas.fitting_value, SoundPlaces.place_of_type, FaultLemmas.some_of}
+use Rattle.conf_inherit.proofs.{RoundLemmas.{no_flaws, outcome_is, all_done, rounds_reached}, TurnLemmas.reached_sound}
+use Rattle.conf_inherit.proofs.SpentLemmas.{written, same_names, same_alias_flaws, same_places}
 use Rattle.serde_json.specs.declared.value.Value as values
 
 -- ---- an object that has the aliases in it

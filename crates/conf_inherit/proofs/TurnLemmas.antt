@@ -1,10 +1,15 @@
 -- What the aliases come to does not depend on the order of their turns: where each that is due had its own, the
 -- outcomes are those that the rounds leave.
-use Rattle.std.{proofs.Common.{◌≡◌, ◌+◌, ◌<◌, ◌≤◌, ◌⊎◌, inl, inr, ℕ, zero, suc, List, Option, Some, None, is_some, Bool, true, false, not, true≢false, refl, sym, ap, ◌∙◌, subst, arith}, proofs.lemmas.Bool.{not-false, or_from, or_cases, and_parts, cases_Bool, or_parts, or_left, or_right}}
-use Rattle.serde_json.{specs.Data.{Data, null, Members, no_members, member, put}, specs.Events.members_len, specs.Find.get_member, proofs.Views.{get_member-put}}
+use Rattle.std.proofs.Common.{◌≡◌, ◌+◌, ◌<◌, ◌≤◌, ◌⊎◌, inl, inr, ℕ, zero, suc, List, Option, Some, None, is_some, Bool, true, false, not, true≢false, refl, sym, ap, ◌∙◌, subst, arith}
+use Rattle.std.proofs.lemmas.Bool.{not-false, or_from, or_cases, and_parts, cases_Bool, or_parts, or_left, or_right}
+use Rattle.serde_json.specs.{Data.{Data, null, Members, no_members, member, put}, Events.members_len, Find.get_member}
+use Rattle.serde_json.proofs.Views.{get_member-put}
 use Rattle.conf_table.specs.declared.place.Place.TheVariants as places
-use Rattle.conf_inherit.specs.{Circle.Walks, Named.{all_named, has}, Names.{IsInOrder, NoClash}, Rounds.{Outcomes, has_outcome, is_over, outcome, concluded, step, round, all_over, next_round, rounds, no_outcomes, Reached, is_settled, all_settled}}
-use Rattle.conf_inherit.proofs.{LayingLemmas.{same_members, value_same, Meets, same, other, meets, get_other, get_same, in_order_put, AllEntries, found_each, entry_found}, LimitLemmas.{more_named, kept_lay, kept_inner}, FaultLemmas.{named_along, blocked, mentioned, is_put, some_of}, RoundLemmas.{by_turn, reached_keeps, round_reached, rounds_reached, count, count_all, count_new, SameAt, same_outcome, concluded_other, Agrees, concluded_agrees}}
+use Rattle.conf_inherit.specs.{Circle.Walks, Named.{all_named, has}, Names.{IsInOrder, NoClash}}
+use Rattle.conf_inherit.specs.Rounds.{Outcomes, has_outcome, is_over, outcome, concluded, step, round, all_over, next_round, rounds, no_outcomes, Reached, is_settled, all_settled}
+use Rattle.conf_inherit.proofs.LayingLemmas.{same_members, value_same, Meets, same, other, meets, get_other, get_same, in_order_put, AllEntries, found_each, entry_found}
+use Rattle.conf_inherit.proofs.{LimitLemmas.{more_named, kept_lay, kept_inner}, FaultLemmas.{named_along, blocked, mentioned, is_put, some_of}}
+use Rattle.conf_inherit.proofs.RoundLemmas.{by_turn, reached_keeps, round_reached, rounds_reached, count, count_all, count_new, SameAt, same_outcome, concluded_other, Agrees, concluded_agrees}
 
 -- the alias has no outcome yet
 abbrev pub IsOpen : Outcomes → List ℕ → Type 0

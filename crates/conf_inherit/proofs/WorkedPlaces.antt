@@ -1,6 +1,9 @@
 -- Where names lead: what is true of each row of an object, and of what no row has, is true of the place that a name leads to.
-use Rattle.std.{proofs.Common.{inr, inl, ◌≡◌, ◌&&◌, ℕ, Bool, true, false, cond, List, [], ◌∷◌, Option, Some, None, option_map, refl, subst, bytes_eq, ◌||◌, true≢false, if◌then◌else◌, sym, ap, ◌∙◌}, proofs.lemmas.Bool.{and_parts, cases_Bool}, proofs.lemmas.Slice.Eq.bytes_eq-Decides, specs.Prelude.codes}
-use Rattle.conf_table.{specs.declared.place.Place.Place, specs.declared.row.Entries.Entries, specs.Table.{Told, rows_of, entries_of, row_in, content_under, told_under, under_entries, place_in}}
+use Rattle.std.proofs.Common.{inr, inl, ◌≡◌, ◌&&◌, ℕ, Bool, true, false, cond, List, [], ◌∷◌, Option, Some, None, option_map, refl, subst, bytes_eq, ◌||◌, true≢false, if◌then◌else◌, sym, ap, ◌∙◌}
+use Rattle.std.proofs.{lemmas.Bool.{and_parts, cases_Bool}, lemmas.Slice.Eq.bytes_eq-Decides}
+use Rattle.std.specs.Prelude.{codes}
+use Rattle.conf_table.specs.{declared.place.Place.Place, declared.row.Entries.Entries}
+use Rattle.conf_table.specs.Table.{Told, rows_of, entries_of, row_in, content_under, told_under, under_entries, place_in}
 use Rattle.conf_table.specs.declared.place.Place.TheVariants as places
 use Rattle.conf_inherit.specs.FieldPlaces.{inherit_name, field_type_name, field_place, field_place_or_none, place_in_type, place_under, leads_on, names_alias, names_member_type, lists_members}
 

@@ -2,9 +2,11 @@
 -- other, and one that names itself and what is no alias.
 use Rattle.std.specs.Prelude.{◌≡◌, ℕ, List, codes, Ok, Err, [], ◌∷◌, refl}
 use Rattle.serde_json.specs.Data.{Data, number, string, array, object, unsigned, no_items, item, Members, no_members, member}
-use Rattle.conf_tree.{specs.declared.fault_kind.FaultKind.TheVariants.{InheritCycle, NoSuchAlias}, specs.Flaw.{key, index}}
+use Rattle.conf_tree.specs.{declared.fault_kind.FaultKind.TheVariants.{InheritCycle, NoSuchAlias}, Flaw.{key, index}}
 use Rattle.conf_table.specs.Table.{rows_of, entries_of, content_under, place_in}
-use Rattle.conf_inherit.specs.{Resolution.{Resolves, aliases_of, resolution, trace_name, type_name, aliases_name}, Names.NoClash, FieldPlaces.{field_place, field_type_name, names_alias, place_under, place_in_type, inherit_name, names_member_type, place_of_items, lists_members, lists_extra_members, is_entry, is_base_name, leads_on}, Places.place_flaws}
+use Rattle.conf_inherit.specs.{Resolution.{Resolves, aliases_of, resolution, trace_name, type_name, aliases_name}, Names.NoClash}
+use Rattle.conf_inherit.specs.FieldPlaces.{field_place, field_type_name, names_alias, place_under, place_in_type, inherit_name, names_member_type, place_of_items, lists_members, lists_extra_members, is_entry, is_base_name, leads_on}
+use Rattle.conf_inherit.specs.Places.{place_flaws}
 use Rattle.conf_inherit.proofs.RoundLemmas.{resolution_sound}
 
 -- `{"class": "uint", "size": size}`

@@ -1,7 +1,7 @@
 -- What is wrong with the aliases, in byte order of their names, once each has had its rounds.
 use Rattle.std.specs.Prelude.{ℕ, List, [], ◌∷◌, ◌++◌, map, Result, Ok, Err, ⊤, if◌then◌else◌}
 use Rattle.serde_json.specs.Data.{Data, null, Members, no_members, member, put}
-use Rattle.conf_tree.{specs.Flaw.{Flaw, key, here, within}, specs.Walk.refusal, specs.declared.fault_kind.FaultKind.TheVariants.InheritCycle}
+use Rattle.conf_tree.specs.{Flaw.{Flaw, key, here, within}, Walk.refusal, declared.fault_kind.FaultKind.TheVariants.InheritCycle}
 use Rattle.conf_table.specs.declared.place.Place.TheVariants as places
 use Rattle.conf_inherit.specs.{Flaws.type_flaws, Named.has, Rounds.{Outcomes, has_outcome}, SameFlaw.is_same_flaw}
 

@@ -1,6 +1,7 @@
 -- The entries of a members list by their names.
-use Rattle.std.{specs.Prelude.{◌≡◌, ℕ, suc, List, Option, None, Some, is_some, nat_lt, if◌then◌else◌}, specs.Borrow.Bor, specs.BTreeMap.{BTreeMap, get_by}, specs.Cmp.Lexicographic.slice_cmp, specs.Ordering.nat_cmp}
-use Rattle.serde_json.{specs.Data.{Data, object, Items, no_items, item, Members, no_members, member}, specs.Find.get}
+use Rattle.std.specs.{Prelude.{◌≡◌, ℕ, suc, List, Option, None, Some, is_some, nat_lt, if◌then◌else◌}, Borrow.Bor, BTreeMap.{BTreeMap, get_by}}
+use Rattle.std.specs.{Cmp.Lexicographic.slice_cmp, Ordering.nat_cmp}
+use Rattle.serde_json.specs.{Data.{Data, object, Items, no_items, item, Members, no_members, member}, Find.get}
 use Rattle.conf_inherit.specs.Laying.{lay_over_entry}
 
 -- the place, if a value has the name

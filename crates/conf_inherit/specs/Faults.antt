@@ -1,9 +1,12 @@
 -- What a refusal says: its kind holds at its path, over the configuration as it was given.
 use Rattle.std.specs.Prelude.{◌≡◌, ◌<◌, ◌++◌, ◌⊎◌, ℕ, List, [], ◌∷◌, Some, None, true}
-use Rattle.serde_json.{specs.Data.{Data, array, object, Items, Members}, specs.Events.{items_len, members_len}, specs.Find.get_item}
-use Rattle.conf_tree.{specs.Flaw.{Flaw, Place as Step, key, index}, specs.Walk.HasMember, specs.declared.fault_kind.FaultKind.FaultKind, specs.declared.fault_kind.FaultKind.TheVariants.{WrongKind, NoSuchAlias, InheritCycle, NameClash, Limit}}
+use Rattle.serde_json.specs.{Data.{Data, array, object, Items, Members}, Events.{items_len, members_len}, Find.get_item}
+use Rattle.conf_tree.specs.{Flaw.{Flaw, Place as Step, key, index}, Walk.HasMember, declared.fault_kind.FaultKind.FaultKind}
+use Rattle.conf_tree.specs.declared.fault_kind.FaultKind.TheVariants.{WrongKind, NoSuchAlias, InheritCycle, NameClash, Limit}
 use Rattle.conf_table.specs.declared.place.Place.{Place}
-use Rattle.conf_inherit.specs.{FieldPlaces.{place_under, place_of_items, lists_members, lists_extra_members}, Circle.Walks, Flaws.{is_wrong, is_unknown}, Looks.AreResolved, Places.max_extra_members, Ready.Names, Nesting.PassesDepth, Resolution.{aliases_of, Resolves}, Laying.lay, Limits.Exceeds, Named.{all_named, has}}
+use Rattle.conf_inherit.specs.{FieldPlaces.{place_under, place_of_items, lists_members, lists_extra_members}, Circle.Walks, Flaws.{is_wrong, is_unknown}}
+use Rattle.conf_inherit.specs.{Looks.AreResolved, Places.max_extra_members, Ready.Names, Nesting.PassesDepth, Resolution.{aliases_of, Resolves}, Laying.lay}
+use Rattle.conf_inherit.specs.{Limits.Exceeds, Named.{all_named, has}}
 use Rattle.conf_table.specs.declared.place.Place.TheVariants as places
 
 -- the path leads from the value v at the place s to the value w at the place t

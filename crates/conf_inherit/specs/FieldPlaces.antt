@@ -1,8 +1,8 @@
 -- Where the field types of a configuration stand: where the table has one at whatever position, which inheritance
 -- takes for the place `FieldType`. There and at a `Member` a text is the name of an alias, and in an object `members`,
 -- `field-type`, `element-field-type` and `$inherit` lead on, whatever its class.
-use Rattle.std.{specs.Prelude.{ℕ, List, Option, None, Some, Bool, true, false, codes, if◌then◌else◌}, specs.Str.bytes_eq}
-use Rattle.conf_table.{specs.declared.place.Place.Place, specs.Table.under_of}
+use Rattle.std.specs.{Prelude.{ℕ, List, Option, None, Some, Bool, true, false, codes, if◌then◌else◌}, Str.bytes_eq}
+use Rattle.conf_table.specs.{declared.place.Place.Place, Table.under_of}
 use Rattle.conf_table.specs.declared.place.Place.TheVariants as places
 
 unfoldable pub inherit_name : List ℕ

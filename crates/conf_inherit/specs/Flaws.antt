@@ -3,11 +3,13 @@
 -- walk order: an object or a list before its content, an object in the byte order of its names, a list by index. A
 -- limit comes behind all else that is wrong in the value that passes it.
 use Rattle.std.specs.Prelude.{◌&&◌, ◌||◌, ◌++◌, ℕ, suc, List, [], ◌∷◌, map, Option, None, Some, Bool, true, false, not, is_some, if◌then◌else◌}
-use Rattle.serde_json.{specs.Data.{Data, null, boolean, number, string, array, object, Items, no_items, item, Members, no_members, member, put}, specs.Find.get_member}
-use Rattle.conf_tree.{specs.Flaw.{Flaw, key, index, here, within}, specs.declared.fault_kind.FaultKind.TheVariants.{WrongKind, NoSuchAlias, NameClash}}
+use Rattle.serde_json.specs.Data.{Data, null, boolean, number, string, array, object, Items, no_items, item, Members, no_members, member, put}
+use Rattle.serde_json.specs.Find.{get_member}
+use Rattle.conf_tree.specs.{Flaw.{Flaw, key, index, here, within}, declared.fault_kind.FaultKind.TheVariants.{WrongKind, NoSuchAlias, NameClash}}
 use Rattle.conf_table.specs.declared.place.Place.{Place}
 use Rattle.conf_table.specs.declared.place.Place.TheVariants as places
-use Rattle.conf_inherit.specs.{FieldPlaces.{place_under, place_of_items, names_alias, names_member_type, is_base_name, lists_members, is_entry}, Limits.limit_flaws}
+use Rattle.conf_inherit.specs.FieldPlaces.{place_under, place_of_items, names_alias, names_member_type, is_base_name, lists_members, is_entry}
+use Rattle.conf_inherit.specs.Limits.{limit_flaws}
 
 -- a members list is a list, or null
 abbrev pub is_no_list : Data → Bool

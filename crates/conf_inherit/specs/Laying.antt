@@ -1,10 +1,12 @@
 -- A value laid over the resolved value of what it inherits from, or over nothing, where `done` holds the
 -- resolved aliases. This is the merge that the code makes; that it is what look-up finds is proved.
 use Rattle.std.specs.Prelude.{ℕ, List, Option, None, Some, Bool, false, ◌||◌, is_some, unwrap_or, if◌then◌else◌}
-use Rattle.serde_json.{specs.Data.{Data, null, boolean, number, string, array, object, Items, no_items, item, Members, no_members, member, put}, specs.Find.{get, get_member}}
+use Rattle.serde_json.specs.Data.{Data, null, boolean, number, string, array, object, Items, no_items, item, Members, no_members, member, put}
+use Rattle.serde_json.specs.Find.{get, get_member}
 use Rattle.conf_table.specs.declared.place.Place.{Place}
 use Rattle.conf_table.specs.declared.place.Place.TheVariants as places
-use Rattle.conf_inherit.specs.{FieldPlaces.{place_under, names_alias, names_member_type, is_base_name, lists_members, field_type_name}, Names.{properties_of, items_in, join_items, map_items}}
+use Rattle.conf_inherit.specs.FieldPlaces.{place_under, names_alias, names_member_type, is_base_name, lists_members, field_type_name}
+use Rattle.conf_inherit.specs.Names.{properties_of, items_in, join_items, map_items}
 
 -- the resolved alias of a name
 abbrev pub resolved : Members → List ℕ → Data

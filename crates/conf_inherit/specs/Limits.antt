@@ -2,7 +2,7 @@
 -- size: all aliases that it names are resolved. Where a type passes both limits, that of its values is named.
 use Rattle.std.specs.Prelude.{◌≡◌, ◌<◌, ◌≤◌, ◌⊎◌, ℕ, List, [], ◌∷◌, None, Result, Ok, Err, nat_lt, true, false, if◌then◌else◌}
 use Rattle.serde_json.specs.Data.{Data, array, object, Items, no_items, item, Members, no_members, member}
-use Rattle.conf_tree.{specs.Flaw.{Flaw, here}, specs.declared.fault_kind.FaultKind.FaultKind, specs.declared.fault_kind.FaultKind.TheVariants.{TooDeep, Limit}}
+use Rattle.conf_tree.specs.{Flaw.{Flaw, here}, declared.fault_kind.FaultKind.FaultKind, declared.fault_kind.FaultKind.TheVariants.{TooDeep, Limit}}
 use Rattle.conf_table.specs.declared.place.Place.{Place}
 use Rattle.conf_inherit.specs.{FieldPlaces.{place_under, place_of_items, is_base_name}, Laying.lay, Named.{all_named, has}, Nesting.nests, Size.size}
 

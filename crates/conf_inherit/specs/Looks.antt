@@ -2,10 +2,11 @@
 -- place, then those that it is laid over. Their chain is the objects, or the lists, that count together.
 -- Objects are looked up name by name, members lists entry by entry, and other lists are joined.
 use Rattle.std.specs.Prelude.{◌≡◌, ℕ, List, [], ◌∷◌, Option, None, Some, true, false, if◌then◌else◌}
-use Rattle.serde_json.{specs.Data.{Data, string, array, object, Items, no_items, item, Members, no_members, member}, specs.Find.get_member}
+use Rattle.serde_json.specs.{Data.{Data, string, array, object, Items, no_items, item, Members, no_members, member}, Find.get_member}
 use Rattle.conf_table.specs.declared.place.Place.{Place}
 use Rattle.conf_table.specs.declared.place.Place.TheVariants as places
-use Rattle.conf_inherit.specs.{FieldPlaces.{place_under, names_alias, names_member_type, is_base_name, lists_members, field_type_name}, Names.{IsInOrder, values_in, entry_values, member_names, joined}}
+use Rattle.conf_inherit.specs.FieldPlaces.{place_under, names_alias, names_member_type, is_base_name, lists_members, field_type_name}
+use Rattle.conf_inherit.specs.Names.{IsInOrder, values_in, entry_values, member_names, joined}
 
 -- what an object inherits from: the value of `$inherit`, where a field type stands
 abbrev pub base_of : Place → Members → Option Data

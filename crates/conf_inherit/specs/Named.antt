@@ -1,6 +1,6 @@
 -- The names of aliases in a value.
 use Rattle.std.specs.Prelude.{◌&&◌, ◌||◌, ℕ, List, Bool, true, not, is_some}
-use Rattle.serde_json.{specs.Data.{Data, string, array, object, Items, no_items, item, Members, no_members, member}, specs.Find.get_member}
+use Rattle.serde_json.specs.{Data.{Data, string, array, object, Items, no_items, item, Members, no_members, member}, Find.get_member}
 use Rattle.conf_table.specs.declared.place.Place.{Place}
 use Rattle.conf_inherit.specs.FieldPlaces.{place_under, place_of_items, names_alias, names_member_type}
 

@@ -1,6 +1,6 @@
 -- The names of an object's properties and of a members list's entries.
-use Rattle.std.{specs.Prelude.{◌≡◌, ℕ, List, [], ◌∷◌, ◌++◌, Option, None, Some, not, filter}, specs.List.list_any, specs.Str.bytes_eq}
-use Rattle.serde_json.{specs.Data.{Data, array, object, Items, no_items, item, Members, no_members, member}, specs.Find.{get, get_member}}
+use Rattle.std.specs.{Prelude.{◌≡◌, ℕ, List, [], ◌∷◌, ◌++◌, Option, None, Some, not, filter}, List.list_any, Str.bytes_eq}
+use Rattle.serde_json.specs.{Data.{Data, array, object, Items, no_items, item, Members, no_members, member}, Find.{get, get_member}}
 pub use Rattle.conf_tree.specs.Order.{AllAbove, IsInOrder}
 
 abbrev pub names_of : Members → List (List ℕ)

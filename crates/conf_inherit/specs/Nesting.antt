@@ -1,7 +1,7 @@
 -- How deep objects and lists nest.
 use Rattle.std.specs.Prelude.{◌≡◌, ℕ, zero, suc, ◌&&◌, ◌++◌, List, [], ◌∷◌, length, map, Bool, true, false}
 use Rattle.serde_json.specs.Data.{Data, null, boolean, number, string, array, object, Items, no_items, item, Members, no_members, member}
-use Rattle.conf_tree.{specs.Flaw.{Flaw, key, index, here, within}, specs.Walk.{LeadsTo, IsNested}, specs.declared.fault_kind.FaultKind.TheVariants.TooDeep}
+use Rattle.conf_tree.specs.{Flaw.{Flaw, key, index, here, within}, Walk.{LeadsTo, IsNested}, declared.fault_kind.FaultKind.TheVariants.TooDeep}
 
 abbrev mutual
   -- objects and lists nest at most so deep

@@ -2,10 +2,11 @@
 -- there, or else the limit that it passes once it is resolved. The extra members of a packet context are such
 -- places one after the other, and each has its flaws before its limit.
 use Rattle.std.specs.Prelude.{ℕ, suc, List, [], ◌∷◌, ◌++◌, map, Some, false, nat_lt, if◌then◌else◌}
-use Rattle.serde_json.{specs.Data.{Data, null, boolean, number, string, array, object, Items, no_items, item, Members, no_members, member}, specs.Events.items_len}
-use Rattle.conf_tree.{specs.Flaw.{Flaw, key, index, here, within}, specs.declared.fault_kind.FaultKind.TheVariants.Limit}
+use Rattle.serde_json.specs.{Data.{Data, null, boolean, number, string, array, object, Items, no_items, item, Members, no_members, member}, Events.items_len}
+use Rattle.conf_tree.specs.{Flaw.{Flaw, key, index, here, within}, declared.fault_kind.FaultKind.TheVariants.Limit}
 use Rattle.conf_table.specs.declared.place.Place.{Place}
-use Rattle.conf_inherit.specs.{FieldPlaces.{place_under, place_of_items, names_alias, names_member_type, lists_extra_members, leads_on}, Flaws.{own_flaws, flaws, type_flaws, mark}, Limits.limit_flaws}
+use Rattle.conf_inherit.specs.FieldPlaces.{place_under, place_of_items, names_alias, names_member_type, lists_extra_members, leads_on}
+use Rattle.conf_inherit.specs.{Flaws.{own_flaws, flaws, type_flaws, mark}, Limits.limit_flaws}
 
 -- the most extra members of a packet context
 abbrev pub max_extra_members : ℕ

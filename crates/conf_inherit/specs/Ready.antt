@@ -1,7 +1,7 @@
 -- What has to hold of a value before it can be resolved: the names in it are names of resolved aliases,
 -- and no name stands twice in a members list.
 use Rattle.std.specs.Prelude.{◌≡◌, Some, true, ◌⊎◌}
-use Rattle.serde_json.{specs.Data.{Data, string, array, object, Items, no_items, item, Members, no_members, member}, specs.Find.get_member}
+use Rattle.serde_json.specs.{Data.{Data, string, array, object, Items, no_items, item, Members, no_members, member}, Find.get_member}
 use Rattle.conf_table.specs.declared.place.Place.{Place}
 use Rattle.conf_inherit.specs.{FieldPlaces.{place_under, place_of_items, names_alias, names_member_type, lists_members}, Names.{entries_of, NoClash}}
 

@@ -1,9 +1,10 @@
 -- The resolution of a configuration: its aliases, and the tree in which each property has the value that is
 -- looked up for it.
 use Rattle.std.specs.Prelude.{ℕ, List, [], ◌∷◌, Option, None, Some, option_and_then, codes, Result, Ok, Err, ⊤}
-use Rattle.serde_json.{specs.Data.{Data, object, Members, no_members}, specs.Find.get, specs.Events.members_len}
-use Rattle.conf_tree.{specs.Flaw.{Flaw, key, within}, specs.Reading.◌>>=◌, specs.Walk.refusal}
-use Rattle.conf_inherit.specs.{AliasFlaws.all_alias_flaws, Laying.lay, Nesting.deep_flaws, Places.inner_places, Rounds.{Outcomes, rounds, no_outcomes}, Looks.Looks}
+use Rattle.serde_json.specs.{Data.{Data, object, Members, no_members}, Find.get, Events.members_len}
+use Rattle.conf_tree.specs.{Flaw.{Flaw, key, within}, Reading.◌>>=◌, Walk.refusal}
+use Rattle.conf_inherit.specs.{AliasFlaws.all_alias_flaws, Laying.lay, Nesting.deep_flaws, Places.inner_places, Rounds.{Outcomes, rounds, no_outcomes}}
+use Rattle.conf_inherit.specs.Looks.{Looks}
 use Rattle.conf_table.specs.declared.place.Place.TheVariants as places
 
 abbrev pub members_or_none : Option Data → Members

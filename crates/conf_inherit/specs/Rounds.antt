@@ -1,8 +1,8 @@
 -- The aliases are resolved in rounds: each whose names all have an outcome gets its own. What has none after as
 -- many rounds as there are aliases inherits in a circle.
 use Rattle.std.specs.Prelude.{◌≡◌, ◌&&◌, ◌||◌, ℕ, zero, suc, List, [], ◌∷◌, Option, Some, None, Result, Ok, Err, Bool, true, false, not, if◌then◌else◌}
-use Rattle.serde_json.{specs.Data.{Data, null, Members, no_members, member, put}, specs.Find.get_member}
-use Rattle.conf_tree.{specs.Flaw.Flaw, specs.declared.fault_kind.FaultKind.FaultKind}
+use Rattle.serde_json.specs.{Data.{Data, null, Members, no_members, member, put}, Find.get_member}
+use Rattle.conf_tree.specs.{Flaw.Flaw, declared.fault_kind.FaultKind.FaultKind}
 use Rattle.conf_table.specs.declared.place.Place.TheVariants as places
 use Rattle.conf_inherit.specs.{Flaws.flaws, Laying.lay, Limits.fitting, Named.{all_named, has}}
 

@@ -1,6 +1,7 @@
 -- When a flaw of a value is one that was found of it before.
-use Rattle.std.{specs.Prelude.{◌&&◌, List, [], ◌∷◌, Bool, true, false, nat_eq}, specs.Bool.beq, specs.Str.bytes_eq}
-use Rattle.conf_tree.{specs.Flaw.{Flaw, Place as Step, key, index}, specs.declared.fault_kind.FaultKind.FaultKind, specs.declared.fault_kind.FaultKind.TheVariants.NoSuchAlias}
+use Rattle.std.specs.{Prelude.{◌&&◌, List, [], ◌∷◌, Bool, true, false, nat_eq}, Bool.beq, Str.bytes_eq}
+use Rattle.conf_tree.specs.{Flaw.{Flaw, Place as Step, key, index}, declared.fault_kind.FaultKind.FaultKind}
+use Rattle.conf_tree.specs.declared.fault_kind.FaultKind.TheVariants.{NoSuchAlias}
 
 -- two steps lead to the same place
 abbrev pub is_same_step : Step → Step → Bool

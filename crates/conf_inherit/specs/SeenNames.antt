@@ -1,5 +1,5 @@
 -- The names of the entries of a members list so far, as the definitions see them.
-use Rattle.std.{specs.Prelude.{ℕ, List, [], ◌∷◌, ⊤}, specs.Borrow.Bor, specs.BTreeMap.BTreeMap}
+use Rattle.std.specs.{Prelude.{ℕ, List, [], ◌∷◌, ⊤}, Borrow.Bor, BTreeMap.BTreeMap}
 use Rattle.serde_json.specs.Data.{null, Members, no_members, member}
 
 abbrev pub members_named : List (Bor (List ℕ) × ⊤) → Members

@@ -1,6 +1,6 @@
 -- The aliases while they are resolved. The body of a resolved alias is never read again, so null may stand in its
 -- place: of such an alias only the name is asked.
-use Rattle.std.{specs.Prelude.{◌≡◌, ◌⊎◌, ℕ, List, true, if◌then◌else◌}, specs.Str.bytes_eq}
+use Rattle.std.specs.{Prelude.{◌≡◌, ◌⊎◌, ℕ, List, true, if◌then◌else◌}, Str.bytes_eq}
 use Rattle.serde_json.specs.Data.{null, Members, no_members, member}
 use Rattle.conf_inherit.specs.{Named.has, Rounds.{Outcomes, Reached}}
 

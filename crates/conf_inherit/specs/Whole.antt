@@ -1,6 +1,6 @@
 -- A whole configuration, whose aliases are taken out, and the resolved ones put into what the rest is laid to.
-use Rattle.std.{specs.Prelude.{◌≡◌, ℕ, List, Option, None, Some, option_and_then, Bool, true, false, if◌then◌else◌}, specs.Str.bytes_eq}
-use Rattle.serde_json.{specs.Data.{Data, object, Members, no_members, member}, specs.Find.get}
+use Rattle.std.specs.{Prelude.{◌≡◌, ℕ, List, Option, None, Some, option_and_then, Bool, true, false, if◌then◌else◌}, Str.bytes_eq}
+use Rattle.serde_json.specs.{Data.{Data, object, Members, no_members, member}, Find.get}
 use Rattle.conf_table.specs.declared.place.Place.{Place}
 use Rattle.conf_table.specs.declared.place.Place.TheVariants as places
 use Rattle.conf_inherit.specs.{Laying.lay_members, Resolution.{trace_name, type_name, aliases_name}}

@@ -2,7 +2,8 @@
 ghost use Rattle.std.specs.Prelude.{◌≡◌, IfOk, map};
 ghost use Rattle.serde_json.specs.{Data.no_members, View.{view, members_view}};
 ghost use Rattle.conf_tree.specs.{Flaw.{flaw_of, place_of}, Reading.Gives, Walk.refusal};
-ghost use Rattle.conf_inherit.specs.{AliasOutcomes.outcomes_of, AliasFlaws.{over_names, first_or_circle, alias_flaws, all_alias_flaws}, Flaws.type_flaws, SameFlaw.{is_same_step, is_same_path, is_same_flaw}};
+ghost use Rattle.conf_inherit.specs.{AliasOutcomes.outcomes_of, AliasFlaws.{over_names, first_or_circle, alias_flaws, all_alias_flaws}, Flaws.type_flaws};
+ghost use Rattle.conf_inherit.specs.SameFlaw.{is_same_step, is_same_path, is_same_flaw};
 
 use crate::flaws::check_type;
 use crate::outcomes::{AliasOutcomes, Known};

@@ -1,6 +1,7 @@
 //! Where a value stands in a configuration, as far as inheritance goes: which names and texts have a meaning there.
 ghost use Rattle.std.specs.Prelude.{◌≡◌, option_map};
-ghost use Rattle.conf_inherit.specs.{FieldPlaces.{field_place, place_in_type, place_under, place_of_items, names_alias, names_member_type, is_base_name, lists_members, lists_extra_members, is_entry, leads_on}, Whole.way_to_aliases};
+ghost use Rattle.conf_inherit.specs.FieldPlaces.{field_place, place_in_type, place_under, place_of_items, names_alias, names_member_type, is_base_name, lists_members, lists_extra_members, is_entry, leads_on};
+ghost use Rattle.conf_inherit.specs.Whole.{way_to_aliases};
 
 use conf_table::{Place, under};
 

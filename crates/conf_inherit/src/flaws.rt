@@ -1,7 +1,8 @@
 //! The first flaw of a value, in walk order.
 ghost use Rattle.std.specs.Prelude.{◌≡◌, ◌+◌, ◌&&◌, ◌++◌, Some, false, OnOk, is_some};
 ghost use Rattle.serde_json.specs.{Data.no_members, Find.get_member, View.{view, items_view, members_view}};
-ghost use Rattle.conf_inherit.specs.{SeenNames.seen_names, FieldPlaces.{place_under, is_entry}, Flaws.{is_wrong, is_no_entry, is_unknown, own_flaws, base_flaws, flaws, type_flaws, item_flaws, member_flaws, mark}};
+ghost use Rattle.conf_inherit.specs.{SeenNames.seen_names, FieldPlaces.{place_under, is_entry}};
+ghost use Rattle.conf_inherit.specs.Flaws.{is_wrong, is_no_entry, is_unknown, own_flaws, base_flaws, flaws, type_flaws, item_flaws, member_flaws, mark};
 ghost use Rattle.conf_tree.specs.{Reading.Gives, Walk.refusal};
 
 use crate::field_places::{

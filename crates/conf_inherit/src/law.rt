@@ -5,7 +5,8 @@ ghost use Rattle.std.specs.Prelude.{◌≡◌, ◌↔◌, ◌⊎◌, ℕ, List, 
 ghost use Rattle.serde_json.specs.{Data.{Data, Members, no_members}, Events.members_len};
 ghost use Rattle.conf_tree.specs.{Flaw.Flaw, Walk.{IsTreeOf, refusal}, declared.fault_kind.FaultKind.FaultKind};
 ghost use Rattle.conf_table.specs.declared.place.Place.{Place};
-ghost use Rattle.conf_inherit.specs.{Circle.Walks, Faults.{Leads, RefusalHolds}, Flaws.{flaws, type_flaws}, Laying.lay, Limits.{Fits, Exceeds, Inherits}, Named.{all_named, has}, Names.NoClash, Resolution.{Resolves, aliases_of, resolution}};
+ghost use Rattle.conf_inherit.specs.{Circle.Walks, Faults.{Leads, RefusalHolds}, Flaws.{flaws, type_flaws}, Laying.lay, Limits.{Fits, Exceeds, Inherits}};
+ghost use Rattle.conf_inherit.specs.{Named.{all_named, has}, Names.NoClash, Resolution.{Resolves, aliases_of, resolution}};
 
 /// A configuration has at most one resolution.
 pub fn one_resolution()

@@ -1,7 +1,8 @@
 //! Lays a value over the resolved value of what it inherits from.
 ghost use Rattle.std.specs.Prelude.{◌≡◌, string_bytes, IfOk, IfErr, OnOk, MatchOption, Option, Some, option_map};
 ghost use Rattle.serde_json.specs.{Data.{Data, object, array, Items, no_items}, View.{view, items_view, members_view}};
-ghost use Rattle.conf_inherit.specs.{Laying.{lay, lay_base, lay_members, lay_over, lay_over_entry, lay_new, lay_new_entry, lay_text, resolved, members_below, items_below}, Names.{join_items, map_items}, Size.{size, items_size, members_size, Within, Leaves, IsDue}};
+ghost use Rattle.conf_inherit.specs.Laying.{lay, lay_base, lay_members, lay_over, lay_over_entry, lay_new, lay_new_entry, lay_text, resolved, members_below, items_below};
+ghost use Rattle.conf_inherit.specs.{Names.{join_items, map_items}, Size.{size, items_size, members_size, Within, Leaves, IsDue}};
 
 use crate::entry_index::EntryIndex;
 use crate::field_places::{

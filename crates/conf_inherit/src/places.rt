@@ -1,7 +1,8 @@
 //! The first fault at the places of a configuration where field types stand, in walk order.
 ghost use Rattle.std.specs.Prelude.{◌+◌, ◌++◌, Some, false};
 ghost use Rattle.serde_json.specs.{Data.no_members, View.{view, items_view, members_view}};
-ghost use Rattle.conf_inherit.specs.{SeenNames.seen_names, Flaws.{own_flaws, flaws}, FieldPlaces.place_of_items, Places.{too_many, place_flaws, inner_places, item_places, member_places}};
+ghost use Rattle.conf_inherit.specs.{SeenNames.seen_names, Flaws.{own_flaws, flaws}, FieldPlaces.place_of_items};
+ghost use Rattle.conf_inherit.specs.Places.{too_many, place_flaws, inner_places, item_places, member_places};
 ghost use Rattle.conf_tree.specs.{Reading.Gives, Walk.refusal};
 
 use crate::field_places::{

@@ -1,7 +1,10 @@
 //! Resolves the inheritance of a configuration.
 ghost use Rattle.std.specs.Prelude.{◌≡◌, ◌⊎◌, ℕ, None, IfOk, IfErr, true};
 ghost use Rattle.conf_tree.specs.{Flaw.{flaw_of, IsMemory}, Reading.Gives};
-ghost use Rattle.conf_inherit.specs.{AliasOutcomes.outcomes_of, Faults.RefusalHolds, Laying.lay, Names.NoClash, Nesting.members_nest, Rounds.{rounds, no_outcomes}, Spent.Spends, Whole.{holds_aliases, aliases_at, with_aliases, AreLaid}, declared.nesting.TheConstants.ALIAS_LEVELS, Resolution.{members_or_none, Resolves, in_aliases, if_shallow, resolution_after, resolution}};
+ghost use Rattle.conf_inherit.specs.{AliasOutcomes.outcomes_of, Faults.RefusalHolds, Laying.lay, Names.NoClash, Nesting.members_nest};
+ghost use Rattle.conf_inherit.specs.{Rounds.{rounds, no_outcomes}, Spent.Spends, Whole.{holds_aliases, aliases_at, with_aliases, AreLaid}};
+ghost use Rattle.conf_inherit.specs.declared.nesting.TheConstants.{ALIAS_LEVELS};
+ghost use Rattle.conf_inherit.specs.Resolution.{members_or_none, Resolves, in_aliases, if_shallow, resolution_after, resolution};
 ghost use Rattle.serde_json.specs.{Data.{object, Members, no_members}, View.{view, members_view}};
 
 use crate::alias_check::check_aliases;

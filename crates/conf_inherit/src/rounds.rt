@@ -2,7 +2,8 @@
 ghost use Rattle.std.specs.{Prelude.{◌≡◌, false, Some, OnOk, IfOk, IfErr, option_map, string_bytes}, BTreeMap.btree_map_len};
 ghost use Rattle.serde_json.specs.{Data.Members, View.{view, members_view}};
 ghost use Rattle.conf_tree.specs.Flaw.{IsMemory};
-ghost use Rattle.conf_inherit.specs.{AliasOutcomes.outcomes_of, Flaws.flaws, Names.NoClash, Named.{all_named, has}, Rounds.{is_over, outcome, step, round, all_settled, rounds, no_outcomes}, Spent.{Spends, TurnsLeave}};
+ghost use Rattle.conf_inherit.specs.{AliasOutcomes.outcomes_of, Flaws.flaws, Names.NoClash, Named.{all_named, has}};
+ghost use Rattle.conf_inherit.specs.{Rounds.{is_over, outcome, step, round, all_settled, rounds, no_outcomes}, Spent.{Spends, TurnsLeave}};
 
 use crate::flaws::check_value;
 use crate::limits::fit;

@@ -1,6 +1,6 @@
 use Rattle.std.proofs.Common.{string_bytes, inl, inr, Err, sym, ap, ◌∙◌}
 use Rattle.serde_json.specs.View.{view, members_view}
-use Rattle.conf_tree.{specs.Flaw.{flaw_of, key, within}, specs.Walk.refusal}
+use Rattle.conf_tree.specs.{Flaw.{flaw_of, key, within}, Walk.refusal}
 use Rattle.conf_inherit.specs.{AliasOutcomes.outcomes_of, AliasFlaws.{alias_flaws, all_alias_flaws}}
 use Rattle.conf_inherit.proofs.FaultLemmas.{refused_part, sound_part}
 use Rattle.conf_inherit.proofs.alias_check.check_aliases.Goals as goal

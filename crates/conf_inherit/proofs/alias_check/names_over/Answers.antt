@@ -1,5 +1,5 @@
 use Rattle.std.proofs.Common.{◌≡◌, ◌||◌, string_bytes, sym, ap, ◌∙◌, List, ℕ, Bool, true, refl}
-use Rattle.serde_json.{specs.Data.{Data, Members, member, null, put}, specs.View.{view, members_view}}
+use Rattle.serde_json.specs.{Data.{Data, Members, member, null, put}, View.{view, members_view}}
 use Rattle.conf_inherit.specs.{AliasOutcomes.outcomes_of, AliasFlaws.over_names, Named.has, Rounds.{Outcomes, has_outcome}}
 use Rattle.conf_inherit.proofs.SpentLemmas.{view-null}
 use Rattle.conf_inherit.proofs.alias_check.names_over.Goals as goal

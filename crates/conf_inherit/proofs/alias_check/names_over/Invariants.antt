@@ -1,5 +1,5 @@
 use Rattle.std.proofs.Common.{◌≡◌}
-use Rattle.serde_json.{specs.Data.no_members, specs.View.members_view}
+use Rattle.serde_json.specs.{Data.no_members, View.members_view}
 use Rattle.conf_inherit.specs.{AliasOutcomes.outcomes_of, AliasFlaws.over_names}
 use Rattle.conf_inherit.proofs.alias_check.names_over.Given as goal
 

@@ -1,5 +1,7 @@
-use Rattle.std.{proofs.Common.{◌≡◌, Some, ℕ, List, string_bytes, ap, sym, ◌∙◌}, specs.Map.update, specs.Option.option_or, specs.Str.bytes_eq, proofs.lemmas.Map.Text.btree_map_updates_str}
-use Rattle.serde_json.{specs.Data.object, specs.View.{view, members_view}}
+use Rattle.std.proofs.Common.{◌≡◌, Some, ℕ, List, string_bytes, ap, sym, ◌∙◌}
+use Rattle.std.specs.{Map.update, Option.option_or, Str.bytes_eq}
+use Rattle.std.proofs.lemmas.Map.Text.{btree_map_updates_str}
+use Rattle.serde_json.specs.{Data.object, View.{view, members_view}}
 use Rattle.conf_inherit.specs.EntryIndex.{place_at, place_if}
 use Rattle.conf_inherit.proofs.EntryLemmas.{noted}
 use Rattle.conf_inherit.proofs.entry_index.note.Goals as goal

@@ -1,5 +1,6 @@
-use Rattle.std.{proofs.Common.{◌≡◌, ℕ, List}, specs.Option.option_or}
-use Rattle.serde_json.{specs.Data.object, specs.View.{view, members_view}}
+use Rattle.std.proofs.Common.{◌≡◌, ℕ, List}
+use Rattle.std.specs.Option.{option_or}
+use Rattle.serde_json.specs.{Data.object, View.{view, members_view}}
 use Rattle.conf_inherit.specs.EntryIndex.{place_at, place_if}
 use Rattle.conf_inherit.proofs.entry_index.note.Given as goal
 

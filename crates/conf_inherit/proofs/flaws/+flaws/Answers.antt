@@ -1,6 +1,6 @@
-use Rattle.std.{proofs.Common.{◌&&◌, ◌++◌, ℕ, List, Err, is_some, Some, string_bytes, inl, inr, sym, ap, ◌∙◌}, proofs.lemmas.Result.err_from_is_err_and}
-use Rattle.conf_tree.{specs.Flaw.{Flaw, flaw_of, key, within}, specs.Walk.refusal}
-use Rattle.serde_json.{specs.Data.no_members, specs.Find.get_member, specs.View.{view, members_view}}
+use Rattle.std.proofs.{Common.{◌&&◌, ◌++◌, ℕ, List, Err, is_some, Some, string_bytes, inl, inr, sym, ap, ◌∙◌}, lemmas.Result.err_from_is_err_and}
+use Rattle.conf_tree.specs.{Flaw.{Flaw, flaw_of, key, within}, Walk.refusal}
+use Rattle.serde_json.specs.{Data.no_members, Find.get_member, View.{view, members_view}}
 use Rattle.conf_inherit.specs.{Flaws.{own_flaws, base_flaws, flaws, inner_flaws, member_flaws}, FieldPlaces.{place_under, is_entry}, SeenNames.seen_names}
 use Rattle.conf_inherit.proofs.FaultLemmas.{refused_first, refused_part, sound_part}
 use Rattle.conf_inherit.proofs.flaws.+flaws.Goals as goal

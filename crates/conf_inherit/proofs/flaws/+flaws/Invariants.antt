@@ -1,5 +1,5 @@
 use Rattle.std.proofs.Common.{◌≡◌, ◌+◌, ◌*◌, drop, Some}
-use Rattle.serde_json.{specs.Data.no_members, specs.View.{items_view, members_view}}
+use Rattle.serde_json.specs.{Data.no_members, View.{items_view, members_view}}
 use Rattle.conf_inherit.specs.{Flaws.{item_flaws, member_flaws}, SeenNames.seen_names}
 use Rattle.conf_inherit.proofs.flaws.+flaws.Given as goal
 

@@ -1,5 +1,8 @@
-use Rattle.std.{proofs.Common.{◌≡◌, ℕ, suc, List, [], ◌∷◌, length, nat_eq, true, refl, sym, ap, ◌∙◌, arith}, specs.Prelude.not, proofs.lemmas.Bool.Decides.nat_tests}
-use Rattle.serde_json.{specs.Data.object, specs.View.{view, members_view}, proofs.Views.{Entry, view-Object}}
+use Rattle.std.proofs.Common.{◌≡◌, ℕ, suc, List, [], ◌∷◌, length, nat_eq, true, refl, sym, ap, ◌∙◌, arith}
+use Rattle.std.specs.Prelude.{not}
+use Rattle.std.proofs.lemmas.Bool.Decides.{nat_tests}
+use Rattle.serde_json.specs.{Data.object, View.{view, members_view}}
+use Rattle.serde_json.proofs.Views.{Entry, view-Object}
 use Rattle.conf_inherit.specs.Flaws.{is_no_entry}
 use Rattle.conf_inherit.proofs.flaws.is_no_entry.Goals as goal
 

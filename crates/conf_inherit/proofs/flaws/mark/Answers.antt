@@ -1,5 +1,5 @@
 use Rattle.std.proofs.Common.{sym, ap, ◌∙◌}
-use Rattle.serde_json.{specs.Data.{null, put}, specs.View.members_view}
+use Rattle.serde_json.specs.{Data.{null, put}, View.members_view}
 use Rattle.conf_inherit.specs.{Flaws.mark_names, SeenNames.{members_named, seen_names}}
 use Rattle.conf_inherit.proofs.FaultLemmas.{noted}
 use Rattle.conf_inherit.proofs.flaws.mark.Goals as goal

@@ -1,8 +1,17 @@
-use Rattle.std.{proofs.Common.{rules, ◌≡◌, ◌+◌, length, None, true, false, string_bytes, [], ◌∷◌, ◌++◌, get_or, ap, sym, ◌∙◌, arith, append-nil, append_assoc, option_map, refl, drop, subst}, proofs.lemmas.Grind.common_steps, proofs.lemmas.List.{at_drop_all, nil_from_length}, specs.Vec.Iter.into_iter_items, specs.Result.{IfOk, IfErr}, proofs.lemmas.Result.err_from_is_err_and}
-use Rattle.serde_json.{specs.Data.{Data, Items, no_items, item, array, object, member, no_members, put}, specs.View.{view, items_view, members_view}, proofs.Views.{Entry, view-Array, view-Object}, specs.Find.get_member}
+use Rattle.std.proofs.Common.{rules, ◌≡◌, ◌+◌, length, None, true, false, string_bytes, [], ◌∷◌, ◌++◌, get_or, ap, sym, ◌∙◌, arith, append-nil, append_assoc, option_map, refl, drop, subst}
+use Rattle.std.proofs.{lemmas.Grind.common_steps, lemmas.List.{at_drop_all, nil_from_length}}
+use Rattle.std.specs.{Vec.Iter.into_iter_items, Result.{IfOk, IfErr}}
+use Rattle.std.proofs.lemmas.Result.{err_from_is_err_and}
+use Rattle.serde_json.specs.{Data.{Data, Items, no_items, item, array, object, member, no_members, put}, View.{view, items_view, members_view}}
+use Rattle.serde_json.proofs.Views.{Entry, view-Array, view-Object}
+use Rattle.serde_json.specs.Find.{get_member}
 use Rattle.conf_table.specs.declared.place.Place.TheVariants as places
-use Rattle.conf_inherit.specs.{Laying.{lay, items_below, has_entry, lay_members, lay_over, lay_over_entry, lay_new, lay_new_entry, lay_new_member}, EntryIndex.lay_over_found, Names.{map_items, join_items, NoClash}, FieldPlaces.{place_under, is_base_name, lists_members}, Size.{size, items_size, Within, IsDue}}
-use Rattle.conf_inherit.proofs.{LayingLemmas.{join_none, join_pushed, join_appended, new_member_fresh, lay_members-first, lay_members-absent, lay_entries}, RoundLemmas.apart_of, SizeLemmas.{IsCounted, counted_none, counted_all, leaves_within, counted_more, counted_past, due_more, over_size, new_size, new_next, property_size, found_among, absent_after}}
+use Rattle.conf_inherit.specs.Laying.{lay, items_below, has_entry, lay_members, lay_over, lay_over_entry, lay_new, lay_new_entry, lay_new_member}
+use Rattle.conf_inherit.specs.{EntryIndex.lay_over_found, Names.{map_items, join_items, NoClash}, FieldPlaces.{place_under, is_base_name, lists_members}}
+use Rattle.conf_inherit.specs.Size.{size, items_size, Within, IsDue}
+use Rattle.conf_inherit.proofs.LayingLemmas.{join_none, join_pushed, join_appended, new_member_fresh, lay_members-first, lay_members-absent, lay_entries}
+use Rattle.conf_inherit.proofs.RoundLemmas.{apart_of}
+use Rattle.conf_inherit.proofs.SizeLemmas.{IsCounted, counted_none, counted_all, leaves_within, counted_more, counted_past, due_more, over_size, new_size, new_next, property_size, found_among, absent_after}
 use Rattle.conf_inherit.proofs.laying.+laying.Goals as goal
 
 pub lay_over_entries-returns-clause-laid : goal.lay_over_entries-returns-clause-laid

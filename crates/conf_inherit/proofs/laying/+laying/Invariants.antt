@@ -1,6 +1,9 @@
-use Rattle.std.{proofs.Common.{◌≡◌, ◌+◌, ◌*◌, drop, length, Option, List, ◌++◌}, specs.Vec.Iter.{into_iter_items, into_iter_len}}
-use Rattle.serde_json.{specs.Data.{Data, Items, no_items}, specs.View.{view, items_view, members_view}, proofs.Views.Entry}
-use Rattle.conf_inherit.specs.{Laying.{lay_base, lay_members, lay_over, lay_over_entry, lay_over_member, lay_new, lay_new_entry, lay_new_member}, Names.{join_items, map_items}, Size.items_size}
+use Rattle.std.proofs.Common.{◌≡◌, ◌+◌, ◌*◌, drop, length, Option, List, ◌++◌}
+use Rattle.std.specs.Vec.Iter.{into_iter_items, into_iter_len}
+use Rattle.serde_json.specs.{Data.{Data, Items, no_items}, View.{view, items_view, members_view}}
+use Rattle.serde_json.proofs.Views.{Entry}
+use Rattle.conf_inherit.specs.Laying.{lay_base, lay_members, lay_over, lay_over_entry, lay_over_member, lay_new, lay_new_entry, lay_new_member}
+use Rattle.conf_inherit.specs.{Names.{join_items, map_items}, Size.items_size}
 use Rattle.conf_inherit.proofs.SizeLemmas.{IsCounted}
 use Rattle.conf_inherit.proofs.laying.+laying.Given as goal
 

@@ -1,5 +1,5 @@
-use Rattle.std.{proofs.Common.{◌+◌, drop, get_or, ap, sym, ◌∙◌, arith}, proofs.lemmas.List.{at_drop_more, at_drop_all}}
-use Rattle.serde_json.{specs.View.{view, items_view}, specs.Data.item}
+use Rattle.std.proofs.{Common.{◌+◌, drop, get_or, ap, sym, ◌∙◌, arith}, lemmas.List.{at_drop_more, at_drop_all}}
+use Rattle.serde_json.specs.{View.{view, items_view}, Data.item}
 use Rattle.conf_inherit.specs.Names.{join_items}
 use Rattle.conf_inherit.proofs.LayingLemmas.{join_none, join_pushed}
 use Rattle.conf_inherit.proofs.laying.join.Goals as goal

@@ -1,5 +1,6 @@
 use Rattle.std.proofs.Common.{rules}
-use Rattle.serde_json.{specs.declared.value.Value.the_lemmas, proofs.Views.view-Object}
+use Rattle.serde_json.specs.declared.value.Value.{the_lemmas}
+use Rattle.serde_json.proofs.Views.{view-Object}
 use Rattle.conf_inherit.proofs.laying.properties_below.Goals as goal
 
 pub returns-in-Some-Object : goal.returns-in-Some-Object

@@ -1,6 +1,6 @@
 use Rattle.std.proofs.Common.{string_bytes, sym, ap, ◌∙◌, subst, rules}
-use Rattle.serde_json.{specs.View.{view, members_view}, specs.declared.value.Value.the_lemmas}
-use Rattle.conf_tree.{specs.Reading.Gives, specs.Walk.refusal}
+use Rattle.serde_json.specs.{View.{view, members_view}, declared.value.Value.the_lemmas}
+use Rattle.conf_tree.specs.{Reading.Gives, Walk.refusal}
 use Rattle.conf_inherit.proofs.LimitLemmas.{name_limit}
 use Rattle.conf_inherit.proofs.limits.check_limits.Goals as goal
 

@@ -1,5 +1,5 @@
 use Rattle.std.proofs.Common.{◌≡◌, ◌+◌, ◌*◌, drop}
-use Rattle.serde_json.{specs.Data.no_members, specs.View.{items_view, members_view}}
+use Rattle.serde_json.specs.{Data.no_members, View.{items_view, members_view}}
 use Rattle.conf_inherit.specs.{Places.{item_places, member_places}, SeenNames.seen_names}
 use Rattle.conf_inherit.proofs.places.+places.Given as goal
 

@@ -1,5 +1,6 @@
 use Rattle.std.proofs.Common.{◌≡◌, ℕ, List, [], ◌∷◌, length, is_some, true, true≢false, string_bytes, refl, sym, ap, ◌∙◌, arith}
-use Rattle.serde_json.{specs.Data.{Data, object, member, no_members, put}, specs.Find.get_member, specs.View.{view, members_view}, proofs.Views.{Entry, view-Object}}
+use Rattle.serde_json.specs.{Data.{Data, object, member, no_members, put}, Find.get_member, View.{view, members_view}}
+use Rattle.serde_json.proofs.Views.{Entry, view-Object}
 use Rattle.conf_inherit.proofs.LayingLemmas.{same_name, same, other, meets, get_other}
 use Rattle.conf_inherit.proofs.property.only.Goals as goal
 

@@ -1,5 +1,6 @@
 use Rattle.std.proofs.Common.{option_map, ap, ◌∙◌}
-use Rattle.serde_json.{specs.View.view, proofs.Views.{view_of_ref, view-lookup}}
+use Rattle.serde_json.specs.View.{view}
+use Rattle.serde_json.proofs.Views.{view_of_ref, view-lookup}
 use Rattle.conf_inherit.proofs.property.property.Goals as goal
 
 pub returns : goal.returns

@@ -1,5 +1,6 @@
 use Rattle.std.proofs.Common.{option_map, string_bytes, sym, ap, ◌∙◌}
-use Rattle.serde_json.{specs.Data.put, specs.View.{view, members_view}, proofs.Views.{members_view-insert_entry, view-lookup}}
+use Rattle.serde_json.specs.{Data.put, View.{view, members_view}}
+use Rattle.serde_json.proofs.Views.{members_view-insert_entry, view-lookup}
 use Rattle.conf_inherit.proofs.SpentLemmas.{written_put}
 use Rattle.conf_inherit.proofs.property.put_property.Goals as goal
 

@@ -1,5 +1,6 @@
 use Rattle.std.proofs.Common.{◌≡◌, Some, None, option_map, sym, ap, ◌∙◌}
-use Rattle.serde_json.{specs.Data.put, specs.Find.get_member, specs.View.{view, members_view}, proofs.Views.view-lookup}
+use Rattle.serde_json.specs.{Data.put, Find.get_member, View.{view, members_view}}
+use Rattle.serde_json.proofs.Views.{view-lookup}
 use Rattle.conf_inherit.proofs.SpentLemmas.{written_spent, spent_none, put_written, view-null}
 use Rattle.conf_inherit.proofs.property.take_property.Goals as goal
 

@@ -1,5 +1,6 @@
 use Rattle.std.proofs.Common.{◌≡◌, ◌+◌, None, Some, option_map, option_and_then, ap, sym, ◌∙◌, arith}
-use Rattle.serde_json.{specs.Data.object, specs.Find.get_member, specs.View.{view, members_view}, proofs.Views.{view-Object, view-lookup}}
+use Rattle.serde_json.specs.{Data.object, Find.get_member, View.{view, members_view}}
+use Rattle.serde_json.proofs.Views.{view-Object, view-lookup}
 use Rattle.conf_inherit.specs.{FieldPlaces.place_under, Resolution.members_or_none, Whole.{holds_aliases, way_to_aliases, aliases_at, with_aliases}}
 use Rattle.conf_inherit.proofs.TakenLemmas.{with_way, at_way, with_none, written_with, way_leads, as_it_is, no_object, their_own, objects_around, fewer_around}
 use Rattle.conf_inherit.proofs.resolution.+replacing.Goals as goal

@@ -1,5 +1,5 @@
-use Rattle.std.{proofs.Common.{◌≡◌, Ok, None, ap, sym, inl, inr, ◌∙◌}, proofs.lemmas.Result.err_from_is_err_and}
-use Rattle.serde_json.{specs.Data.{Data, Members, no_members}, specs.View.{view, members_view}}
+use Rattle.std.proofs.{Common.{◌≡◌, Ok, None, ap, sym, inl, inr, ◌∙◌}, lemmas.Result.err_from_is_err_and}
+use Rattle.serde_json.specs.{Data.{Data, Members, no_members}, View.{view, members_view}}
 use Rattle.conf_tree.specs.Reading.{◌>>=◌}
 use Rattle.conf_table.specs.declared.place.Place.TheVariants as places
 use Rattle.conf_inherit.specs.{Laying.lay, Resolution.if_shallow, Whole.{with_aliases, AreLaid}}

@@ -1,9 +1,12 @@
-use Rattle.std.{proofs.Common.{◌≡◌, ℕ, ap, sym, ◌∙◌, subst, inl, inr}, proofs.lemmas.Result.err_from_is_err_and, specs.BTreeMap.btree_map_len}
-use Rattle.serde_json.{specs.Data.{Data, Members}, specs.Events.members_len, specs.View.{view, members_view}, proofs.Views.members_len-members_view}
+use Rattle.std.proofs.{Common.{◌≡◌, ℕ, ap, sym, ◌∙◌, subst, inl, inr}, lemmas.Result.err_from_is_err_and}
+use Rattle.std.specs.BTreeMap.{btree_map_len}
+use Rattle.serde_json.specs.{Data.{Data, Members}, Events.members_len, View.{view, members_view}}
+use Rattle.serde_json.proofs.Views.{members_len-members_view}
 use Rattle.conf_tree.specs.Flaw.{flaw_of}
 use Rattle.conf_table.specs.declared.place.Place.TheVariants as places
 use Rattle.conf_inherit.specs.{Names.NoClash, Resolution.{aliases_of, resolution, resolution_after}, Rounds.{Outcomes, rounds, no_outcomes}, Whole.with_aliases}
-use Rattle.conf_inherit.proofs.{RefusalLemmas.refusal_holds, RoundLemmas.{resolution_is, resolution_sound}, SizeLemmas.nests_deep, LookedUp.{resolved_ascends, resolved_whole}, TakenLemmas.{back_again, bare_again}}
+use Rattle.conf_inherit.proofs.{RefusalLemmas.refusal_holds, RoundLemmas.{resolution_is, resolution_sound}, SizeLemmas.nests_deep}
+use Rattle.conf_inherit.proofs.{LookedUp.{resolved_ascends, resolved_whole}, TakenLemmas.{back_again, bare_again}}
 use Rattle.conf_inherit.proofs.resolution.resolve.Goals as goal
 
 -- what the aliases that were taken out come to, with them back in their place

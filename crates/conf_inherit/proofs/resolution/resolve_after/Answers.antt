@@ -1,6 +1,6 @@
-use Rattle.std.{proofs.Common.{Err, sym, ap, ◌∙◌, subst, inl, inr}, proofs.lemmas.Result.err_from_is_err_and}
+use Rattle.std.proofs.{Common.{Err, sym, ap, ◌∙◌, subst, inl, inr}, lemmas.Result.err_from_is_err_and}
 use Rattle.serde_json.specs.View.{view, members_view}
-use Rattle.conf_tree.{specs.Flaw.flaw_of, specs.Reading.Gives}
+use Rattle.conf_tree.specs.{Flaw.flaw_of, Reading.Gives}
 use Rattle.conf_inherit.specs.{AliasOutcomes.outcomes_of, Resolution.{in_aliases, from_aliases}}
 use Rattle.conf_inherit.proofs.TakenLemmas.{refused_alias, refused_place, aliases_laid, answered}
 use Rattle.conf_inherit.proofs.resolution.resolve_after.Goals as goal

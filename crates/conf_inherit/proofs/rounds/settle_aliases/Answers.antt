@@ -1,5 +1,7 @@
-use Rattle.std.{proofs.Common.{◌≡◌, false, true, sym, ap, ◌∙◌, arith}, specs.BTreeMap.btree_map_len}
-use Rattle.serde_json.{specs.View.members_view, proofs.Views.members_len-members_view}
+use Rattle.std.proofs.Common.{◌≡◌, false, true, sym, ap, ◌∙◌, arith}
+use Rattle.std.specs.BTreeMap.{btree_map_len}
+use Rattle.serde_json.specs.View.{members_view}
+use Rattle.serde_json.proofs.Views.{members_len-members_view}
 use Rattle.conf_inherit.specs.{AliasOutcomes.outcomes_of, Names.NoClash, Rounds.{all_settled, rounds, no_outcomes}}
 use Rattle.conf_inherit.proofs.{RoundLemmas.apart_of, TurnLemmas.follows_all, SpentLemmas.{first_leaves, rounds_first, rounds_more, rounds_done}}
 use Rattle.conf_inherit.proofs.rounds.settle_aliases.Goals as goal

@@ -1,4 +1,4 @@
-use Rattle.serde_json.{specs.Data.Members, specs.View.members_view}
+use Rattle.serde_json.specs.{Data.Members, View.members_view}
 use Rattle.conf_inherit.specs.{AliasOutcomes.outcomes_of, Spent.TurnsLeave}
 use Rattle.conf_inherit.proofs.rounds.take_turns.Given as goal
 

@@ -1,4 +1,5 @@
-use Rattle.std.{proofs.Common.{◌≡◌, Some, None, sym, ◌∙◌, subst}, specs.Slice.IsItemAt}
+use Rattle.std.proofs.Common.{◌≡◌, Some, None, sym, ◌∙◌, subst}
+use Rattle.std.specs.Slice.{IsItemAt}
 use Rattle.serde_json.specs.View.{view, items_view}
 use Rattle.conf_inherit.specs.EntryIndex.{place_at, place_from, lowest_of}
 use Rattle.conf_inherit.proofs.EntryLemmas.{Finds, finds, found_first, among_items, same_lowest}

@@ -1,4 +1,5 @@
-use Rattle.std.{proofs.Common.{◌≡◌, ◌-◌, ◌+◌, length, sym, ap, ◌∙◌, arith}, specs.List.push, specs.Option.option_or}
+use Rattle.std.proofs.Common.{◌≡◌, ◌-◌, ◌+◌, length, sym, ap, ◌∙◌, arith}
+use Rattle.std.specs.{List.push, Option.option_or}
 use Rattle.serde_json.specs.View.{view, items_view}
 use Rattle.conf_inherit.specs.EntryIndex.{place_at, place_if, place_from}
 use Rattle.conf_inherit.proofs.EntryLemmas.{place_pushed, length_pushed, or_assoc}

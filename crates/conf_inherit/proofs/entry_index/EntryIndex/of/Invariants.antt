@@ -1,4 +1,5 @@
-use Rattle.std.{proofs.Common.{◌≡◌, ℕ, List, length}, specs.Option.option_or}
+use Rattle.std.proofs.Common.{◌≡◌, ℕ, List, length}
+use Rattle.std.specs.Option.{option_or}
 use Rattle.serde_json.specs.View.{items_view}
 use Rattle.conf_inherit.specs.EntryIndex.{place_at, place_from}
 use Rattle.conf_inherit.proofs.entry_index.EntryIndex.of.Given as goal

@@ -1,5 +1,5 @@
 use Rattle.std.proofs.Common.{string_bytes, ap, ◌∙◌}
-use Rattle.serde_json.{specs.Data.{Members, put}, specs.View.members_view}
+use Rattle.serde_json.specs.{Data.{Members, put}, View.members_view}
 use Rattle.conf_inherit.specs.Rounds.{Outcomes}
 use Rattle.conf_inherit.proofs.SpentLemmas.{view-null}
 use Rattle.conf_inherit.proofs.outcomes.AliasOutcomes.refuse.Goals as goal
