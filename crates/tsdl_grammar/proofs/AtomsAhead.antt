@@ -1,9 +1,10 @@
 -- The atoms of a text, one after the other, are what its tokens mean.
 use Rattle.std.proofs.Common.{◌≡◌, ℕ, zero, suc, ◌-◌, ◌<◌, ◌≤◌, List, [], ◌∷◌, ◌++◌, length, take, drop, Option, Some, None, arith, refl, sym, ap, subst, ◌∙◌, ◌⊎◌, inl, inr, append-nil, length-append}
 use Rattle.std.proofs.lemmas.List.{drop_all}
-use Rattle.tsdl_grammar.specs.declared.{token.Token.Token, token.TokenKind.TokenKind, piece.Piece.Piece, piece.Cut.Cut, atom.Atom.Atom}
+use Rattle.tsdl_grammar.specs.{declared.token.Token.Token, declared.token.TokenKind.TokenKind, declared.piece.Piece.Piece, declared.piece.Cut.Cut}
+use Rattle.tsdl_grammar.specs.declared.atom.Atom.{Atom}
 use Rattle.tsdl_grammar.specs.declared.piece.Piece.TheVariants as pieces
-use Rattle.tsdl_grammar.specs.{Pieces.piece_at, Tokens.Splits, Tokens.Tokenizes}
+use Rattle.tsdl_grammar.specs.{Pieces.piece_at, Tokens.{Splits, Tokenizes}}
 use Rattle.tsdl_grammar.specs.Atoms.{meaning_of, atoms_of, piece_atoms, atoms_along}
 use Rattle.tsdl_grammar.specs.Fronts.{front_atoms, passed, atoms_behind, atoms_in}
 use Rattle.tsdl_grammar.proofs.{Splits.nothing_at_the_end, Continuation.spells}

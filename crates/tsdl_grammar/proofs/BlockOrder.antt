@@ -2,14 +2,15 @@
 use Rattle.std.proofs.Common.{◌≡◌, ℕ, Bool, eqb, List, ◌∷◌, map, Option, Some, refl, sym, ap, ap₂, ◌∙◌, inl, inr, flat_map, bytes_eq}
 use Rattle.std.specs.{List.list_any, Cmp.Lexicographic.nat_list_eq_equiv}
 use Rattle.std.proofs.lemmas.Bool.{cases_Bool}
-use Rattle.ctf_types.specs.declared.{ByteOrder.ByteOrder, ClockType.ClockType, Event.Event, Stream.Stream, Metadata.Metadata}
+use Rattle.ctf_types.specs.{declared.ByteOrder.ByteOrder, declared.ClockType.ClockType, declared.Event.Event, declared.Stream.Stream}
+use Rattle.ctf_types.specs.declared.Metadata.{Metadata}
 use Rattle.tsdl_grammar.specs.declared.tree.Block.{Block}
 use Rattle.tsdl_grammar.specs.{Lookups.no_two, IntegerMeaning.Known, Laws.SaysMetadata}
 use Rattle.tsdl_grammar.specs.Steps.{◌>>=◌, provided, only, at_most_one, each, by_number}
 use Rattle.tsdl_grammar.specs.BlockMeaning.{clock_meaning, stream_meaning, event_meaning, environment_meaning}
 use Rattle.tsdl_grammar.specs.Denotes.{text_meta, trace_in, stream_in, event_in, clock_in, environment_in, events_of, with_events, have_streams, known_of, streams_meaning}
 use Rattle.tsdl_grammar.specs.Orders.{Reordered, same, neighbours, behind, further, SameButClockOrder}
-use Rattle.tsdl_grammar.proofs.{Inversion.bind_some, Inversion.bind_is, MeaningParts.says_metadata, MeaningParts.text_says}
+use Rattle.tsdl_grammar.proofs.{Inversion.{bind_some, bind_is}, MeaningParts.{says_metadata, text_says}}
 use Rattle.tsdl_grammar.proofs.Reordering.{reordered_parts, reordered_map, one_stays, any_stays, all_stays, no_two_stays, each_stays, each_alike, by_number_stays}
 use Rattle.tsdl_grammar.proofs.KnownClocks.{KnowSame, header_alike, stream_alike, event_alike}
 

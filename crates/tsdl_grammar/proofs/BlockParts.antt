@@ -1,9 +1,9 @@
 -- What clock, stream and event blocks mean, taken apart.
 use Rattle.std.proofs.Common.{◌≡◌, ℕ, true, false, ◌&&◌, List, [], ◌∷◌, Some, subst, pos, codes}
 use Rattle.std.proofs.lemmas.Option.{same_Some}
-use Rattle.ctf_types.specs.declared.{ClockType.ClockType, Stream.Stream, Event.Event}
+use Rattle.ctf_types.specs.{declared.ClockType.ClockType, declared.Stream.Stream, declared.Event.Event}
 use Rattle.tsdl_grammar.specs.declared.tree.Item.{Item}
-use Rattle.tsdl_grammar.specs.{Steps.◌>>=◌, IntegerMeaning.Known, StructureMeaning.scope_meaning, StructureMeaning.has_member}
+use Rattle.tsdl_grammar.specs.{Steps.◌>>=◌, IntegerMeaning.Known, StructureMeaning.{scope_meaning, has_member}}
 use Rattle.tsdl_grammar.specs.Lookups.{attr, attrs_in, scopes_in, has_parts}
 use Rattle.tsdl_grammar.specs.AttributeValues.{natural_value, whole_value, text_value, name_value, uuid_value, flag_value, with_default, optional}
 use Rattle.tsdl_grammar.specs.BlockMeaning.{number_or_zero, clock_meaning, stream_meaning, event_meaning, packet_context, event_header, event_context, context_names, suits, specific_context, fields_scope}

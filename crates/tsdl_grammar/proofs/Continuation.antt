@@ -1,9 +1,9 @@
 -- Writing a text from its end: one more piece in front of bytes that spell their atoms.
 use Rattle.std.proofs.Common.{◌≡◌, ℕ, ◌+◌, ◌-◌, List, [], ◌∷◌, ◌++◌, length, take, drop, Some, arith, refl, sym, ap, ◌∙◌, take_at, drop_at, drop-drop}
 use Rattle.std.proofs.lemmas.List.{map-append}
-use Rattle.tsdl_grammar.specs.declared.{piece.Piece.Piece, piece.Cut.Cut, atom.Atom.Atom}
+use Rattle.tsdl_grammar.specs.{declared.piece.Piece.Piece, declared.piece.Cut.Cut, declared.atom.Atom.Atom}
 use Rattle.tsdl_grammar.specs.declared.piece.Piece.TheVariants as pieces
-use Rattle.tsdl_grammar.specs.{Pieces.piece_at, Pieces.cut, Tokens.token_of, Tokens.tokens_from}
+use Rattle.tsdl_grammar.specs.{Pieces.{piece_at, cut}, Tokens.{token_of, tokens_from}}
 use Rattle.tsdl_grammar.specs.Atoms.{atom_of, atoms_of, piece_atoms, atoms_along, Reads, Spells}
 
 -- nothing spells nothing

@@ -1,6 +1,6 @@
 -- Escapes keep UTF-8, both ways: they touch bytes below 128 alone.
 use Rattle.std.proofs.Common.{◌≡◌, ℕ, zero, suc, ◌<◌, ◌≤◌, Bool, true, false, eqb, List, [], ◌∷◌, ◌++◌, length, get_or, None, arith, refl, sym, ap, subst, ◌∙◌, inl, inr, unwrap_or, IsUtf8, append-nil}
-use Rattle.std.proofs.lemmas.{Bool.cases_Bool, Bool.cases_lt, Bool.Decides.nat_tests, List.Concat.flat_map-cons, List.Concat.flat_map-append}
+use Rattle.std.proofs.{lemmas.Bool.{cases_Bool, cases_lt}, lemmas.Bool.Decides.nat_tests, lemmas.List.Concat.{flat_map-cons, flat_map-append}}
 use Rattle.std.proofs.lemmas.Str.{IsUtf8-append, IsUtf8-from_ascii, IsUtf8-nil, encode_ascii, inside_one, length-encode, len_utf8_bounds}
 use Rattle.tsdl_grammar.specs.Escapes.{escaped_byte, unescaped_from, unescaped, escape_of, escaped}
 use Rattle.tsdl_grammar.proofs.{Runs.and_true, Escaping.escape_cases}

@@ -1,6 +1,6 @@
 -- Escapes: what is written between quotes ends at the closing quote, stands for the text again, and is UTF-8 where the text is.
 use Rattle.std.proofs.Common.{◌≡◌, ℕ, ◌+◌, ◌<◌, false, eqb, List, [], ◌∷◌, ◌++◌, length, Some, arith, refl, sym, ap, ◌∙◌, append_assoc, length-append}
-use Rattle.std.proofs.lemmas.{Bool.cond_both, Bool.eqb-true, List.Concat.flat_map-cons}
+use Rattle.std.proofs.{lemmas.Bool.{cond_both, eqb-true}, lemmas.List.Concat.flat_map-cons}
 use Rattle.tsdl_grammar.specs.Escapes.{escaped_byte, unescaped_from, unescaped, escape_of, escaped}
 use Rattle.tsdl_grammar.specs.Pieces.{content_len}
 

@@ -1,7 +1,7 @@
 -- From a case that was met back to the cases of its parts.
 use Rattle.std.proofs.Common.{◌≡◌, ℕ, ◌<◌, Bool, true, false, ltb, eqb, List, [], ◌∷◌, Option, Some, None, refl, sym, ap, subst, ◌∙◌, arith, inl, inr, option_map}
 use Rattle.std.specs.List.{AllByRecursion}
-use Rattle.std.proofs.lemmas.{Bool.cases_Bool, Bool.ltb-true, Bool.Decides.nat_tests, Option.same_Some}
+use Rattle.std.proofs.{lemmas.Bool.{cases_Bool, ltb-true}, lemmas.Bool.Decides.nat_tests, lemmas.Option.same_Some}
 use Rattle.tsdl_grammar.specs.Steps.{◌>>=◌, provided, each, insert_numbered, by_number}
 use Rattle.tsdl_grammar.specs.Laws.{NumbersRise}
 

@@ -1,16 +1,16 @@
 -- The attributes, scopes and entries of blocks in another order.
 use Rattle.std.proofs.Common.{◌≡◌, ℕ, suc, Bool, true, false, not, cond, ◌&&◌, List, [], ◌∷◌, ◌++◌, map, length, Option, Some, refl, sym, ap, ap₂, subst, ◌∙◌, inl, inr, codes, nat_le, flat_map, bytes_eq}
-use Rattle.std.specs.{List.list_any, List.list_all, Cmp.IsEquivalence, Cmp.Lexicographic.lists_equiv, Cmp.Lexicographic.nat_list_eq_equiv}
-use Rattle.std.proofs.lemmas.{Bool.cases_Bool, List.Concat.flat_map-cons, Option.same_Some}
-use Rattle.ctf_types.specs.declared.{EnvironmentEntry.EnvironmentEntry, Metadata.Metadata}
-use Rattle.tsdl_grammar.specs.declared.tree.{Item.Item, NamedFact.NamedFact, Block.Block}
+use Rattle.std.specs.{List.{list_any, list_all}, Cmp.IsEquivalence, Cmp.Lexicographic.{lists_equiv, nat_list_eq_equiv}}
+use Rattle.std.proofs.{lemmas.Bool.cases_Bool, lemmas.List.Concat.flat_map-cons, lemmas.Option.same_Some}
+use Rattle.ctf_types.specs.{declared.EnvironmentEntry.EnvironmentEntry, declared.Metadata.Metadata}
+use Rattle.tsdl_grammar.specs.{declared.tree.Item.Item, declared.tree.NamedFact.NamedFact, declared.tree.Block.Block}
 use Rattle.tsdl_grammar.specs.{IntegerMeaning.Known, Laws.SaysMetadata}
 use Rattle.tsdl_grammar.specs.Steps.{◌>>=◌, provided, only, at_most_one, each}
 use Rattle.tsdl_grammar.specs.Lookups.{words_of, same_words, is_among, no_two, are_distinct, attr, attr_names, attr_in, attrs_in, scope, scope_in, scopes_in, has_parts}
 use Rattle.tsdl_grammar.specs.BlockMeaning.{packet_header, has_number, is_trace, trace_order, trace_uuid, header_meaning, clock_meaning, packet_context, event_header, event_context, stream_meaning, specific_context, fields_scope, event_meaning, named_fact_meaning, environment_meaning}
 use Rattle.tsdl_grammar.specs.Denotes.{text_meta, trace_in, stream_in, event_in, clock_in, environment_in, known_of, streams_meaning}
 use Rattle.tsdl_grammar.specs.Orders.{Reordered, same, neighbours, behind, further, SameItems, traces, streams, events, clocks, environments, Paired, none, more, SameButEnvironmentOrder}
-use Rattle.tsdl_grammar.proofs.{MeaningParts.says_metadata, MeaningParts.text_says, Runs.and_true}
+use Rattle.tsdl_grammar.proofs.{MeaningParts.{says_metadata, text_says}, Runs.and_true}
 use Rattle.tsdl_grammar.proofs.Inversion.{bind_some, bind_is, provided_some}
 use Rattle.tsdl_grammar.proofs.Reordering.{reordered_parts, reordered_map, gathered_stay, all_stays, no_two_stays, each_stays}
 

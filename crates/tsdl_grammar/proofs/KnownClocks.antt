@@ -2,12 +2,13 @@
 use Rattle.std.proofs.Common.{◌≡◌, ℕ, Bool, true, not, ◌&&◌, List, [], ◌∷◌, ◌++◌, Option, Some, None, refl, ap, ap₂, codes, nat_le, length, option_map, bytes_eq}
 use mathlib.Core.Path.{fun_ext}
 use Rattle.std.specs.List.{list_any, list_all}
-use Rattle.ctf_types.specs.declared.{MemberType.MemberType, StructType.StructType, IntType.IntType}
+use Rattle.ctf_types.specs.{declared.MemberType.MemberType, declared.StructType.StructType, declared.IntType.IntType}
 use Rattle.ctf_types.specs.Chain.{Leaf, Number, Labelled}
-use Rattle.tsdl_grammar.specs.declared.tree.{Value.Value, Attribute.Attribute, Kind.Kind, MemberTree.MemberTree, Structure.Structure, Scope.Scope, Item.Item}
+use Rattle.tsdl_grammar.specs.{declared.tree.Value.Value, declared.tree.Attribute.Attribute, declared.tree.Kind.Kind, declared.tree.MemberTree.MemberTree}
+use Rattle.tsdl_grammar.specs.{declared.tree.Structure.Structure, declared.tree.Scope.Scope, declared.tree.Item.Item}
 use Rattle.tsdl_grammar.specs.declared.tree.Value.TheVariants as values
 use Rattle.tsdl_grammar.specs.declared.tree.Kind.TheVariants as kinds
-use Rattle.tsdl_grammar.specs.{Steps.◌>>=◌, Steps.provided}
+use Rattle.tsdl_grammar.specs.Steps.{◌>>=◌, provided}
 use Rattle.tsdl_grammar.specs.Lookups.{words_of, scope, scopes_in}
 use Rattle.tsdl_grammar.specs.IntegerMeaning.{Known, clock_in, clock_value, int_meaning}
 use Rattle.tsdl_grammar.specs.MemberMeaning.{kind_meaning, enum_meaning, bracketed, member_meaning}

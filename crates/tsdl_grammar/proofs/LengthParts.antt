@@ -2,14 +2,15 @@
 use Rattle.std.proofs.Common.{◌≡◌, ℕ, ◌&&◌, List, [], ◌∷◌, get_or, Some, ap, ◌∙◌, nat_lt, bytes_eq}
 use Rattle.std.specs.List.{list_all}
 use Rattle.std.proofs.lemmas.List.Quantifiers.{position-Some}
-use Rattle.ctf_types.specs.declared.{FieldType.FieldType, MemberType.MemberType, MemberType.TheVariants.Plain, MemberType.TheVariants.Dyn, Length.TheVariants.Auto, Length.TheVariants.At}
+use Rattle.ctf_types.specs.{declared.FieldType.FieldType, declared.MemberType.MemberType, declared.MemberType.TheVariants.{Plain, Dyn}}
+use Rattle.ctf_types.specs.declared.Length.TheVariants.{Auto, At}
 use Rattle.ctf_types.specs.Chain.{Leaf}
-use Rattle.tsdl_grammar.specs.declared.tree.{Bracket.Bracket, MemberTree.MemberTree}
+use Rattle.tsdl_grammar.specs.{declared.tree.Bracket.Bracket, declared.tree.MemberTree.MemberTree}
 use Rattle.tsdl_grammar.specs.declared.tree.Bracket.TheVariants as brackets
 use Rattle.tsdl_grammar.specs.{IntegerMeaning.Known, Laws.NamesLength}
 use Rattle.tsdl_grammar.specs.Steps.{◌>>=◌, provided, each}
 use Rattle.tsdl_grammar.specs.MemberMeaning.{kind_meaning, bracketed, member_meaning, arrays_of, are_lengths, count_of, is_unsigned, length_place}
-use Rattle.tsdl_grammar.proofs.{Inversion.bind_some, Inversion.provided_some, Runs.and_true}
+use Rattle.tsdl_grammar.proofs.{Inversion.{bind_some, provided_some}, Runs.and_true}
 
 in_brackets : (before : List (List ℕ × MemberType)) (leaf : Leaf) (bs : List Bracket) (t : FieldType) (i : ℕ) → bracketed before leaf bs ≡ Some (Dyn t (At i)) → NamesLength before i
 unfolding bracketed

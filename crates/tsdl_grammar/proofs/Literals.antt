@@ -1,6 +1,6 @@
 -- The digits of a literal, one by one, and that its value only grows with them.
 use Rattle.std.proofs.Common.{◌≡◌, ℕ, ◌+◌, ◌*◌, ◌<◌, ◌≤◌, List, [], ◌∷◌, length, get_or, drop, arith, refl, sym, subst, ◌∙◌, inl, inr}
-use Rattle.std.proofs.lemmas.{Bool.cases_lt, Bool.le-ltb, Bool.lt-ltb, List.at_drop_more}
+use Rattle.std.proofs.{lemmas.Bool.{cases_lt, le-ltb, lt-ltb}, lemmas.List.at_drop_more}
 use Rattle.std.proofs.Math.Nat.{mul-le-mul_left}
 use Rattle.std.specs.Char.{digit_value}
 use Rattle.tsdl_grammar.specs.Literals.{digits_from}

@@ -1,12 +1,12 @@
 -- A mark at the front of bytes, and what may follow it: no `=` behind `:`, and no `.` behind `.`.
 use Rattle.std.proofs.Common.{◌≡◌, ℕ, false, eqb, List, [], ◌∷◌, get_or, Some, refl, ◌∙◌, option_map}
 use Rattle.std.specs.Char.{is_ascii_digit}
-use Rattle.tsdl_grammar.specs.declared.{token.Mark.Mark, atom.Atom.Atom}
+use Rattle.tsdl_grammar.specs.{declared.token.Mark.Mark, declared.atom.Atom.Atom}
 use Rattle.tsdl_grammar.specs.declared.token.Mark.TheVariants as marks
 use Rattle.tsdl_grammar.specs.declared.token.TokenKind.TheVariants as kinds
 use Rattle.tsdl_grammar.specs.declared.piece.Piece.TheVariants as pieces
 use Rattle.tsdl_grammar.specs.declared.atom.Atom.TheVariants as atoms
-use Rattle.tsdl_grammar.specs.{Bytes.is_blank, Bytes.is_name_start, Atoms.Spells}
+use Rattle.tsdl_grammar.specs.{Bytes.{is_blank, is_name_start}, Atoms.Spells}
 use Rattle.tsdl_grammar.specs.Pieces.{piece_at, mark_at, mark_cut, one_byte_mark}
 use Rattle.tsdl_grammar.proofs.Continuation.{piece}
 

@@ -1,8 +1,9 @@
 -- What integers, structures and texts mean, taken apart.
 use Rattle.std.proofs.Common.{◌≡◌, ℕ, Bool, true, false, List, [], length, Some, None, refl, sym, ap, subst, ◌∙◌, nat_le, codes, flat_map, bytes_eq}
 use Rattle.std.proofs.lemmas.Option.{same_Some}
-use Rattle.ctf_types.specs.declared.{Base.TheVariants.Dec, IntType.IntType, StructType.StructType, MemberType.MemberType, Metadata.Metadata}
-use Rattle.tsdl_grammar.specs.declared.tree.{Attribute.Attribute, Structure.Structure, Block.Block}
+use Rattle.ctf_types.specs.{declared.Base.TheVariants.Dec, declared.IntType.IntType, declared.StructType.StructType, declared.MemberType.MemberType}
+use Rattle.ctf_types.specs.declared.Metadata.{Metadata}
+use Rattle.tsdl_grammar.specs.{declared.tree.Attribute.Attribute, declared.tree.Structure.Structure, declared.tree.Block.Block}
 use Rattle.tsdl_grammar.specs.Steps.{◌>>=◌, provided, only, at_most_one, each}
 use Rattle.tsdl_grammar.specs.Lookups.{attr, no_two}
 use Rattle.tsdl_grammar.specs.AttributeValues.{natural_value, flag_value, with_default, optional}

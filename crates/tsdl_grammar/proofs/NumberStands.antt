@@ -1,13 +1,13 @@
 -- A decimal number at the front of bytes, and what may follow it: no byte that a name has.
 use Rattle.std.proofs.Common.{◌≡◌, ℕ, ◌+◌, ◌*◌, ◌/◌, ◌%◌, ◌^◌, ◌<◌, ◌≤◌, true, false, eqb, List, [], ◌∷◌, ◌++◌, length, get_or, drop, Some, arith, refl, sym, ap, subst, ◌∙◌, inl, inr, decimal, drop_at}
-use Rattle.std.specs.{List.prefix_len, List.list_all, Char.is_ascii_digit, Char.digit_value}
-use Rattle.std.proofs.lemmas.{Bool.lt-ltb, Bool.cases_lt, Bool.Decides.nat_tests, List.Folds.list_all-append, Str.digit_value_digit}
+use Rattle.std.specs.{List.{prefix_len, list_all}, Char.{is_ascii_digit, digit_value}}
+use Rattle.std.proofs.{lemmas.Bool.{lt-ltb, cases_lt}, lemmas.Bool.Decides.nat_tests, lemmas.List.Folds.list_all-append, lemmas.Str.digit_value_digit}
 use Rattle.std.proofs.lemmas.Fmt.{decimal_by_steps, decimal_digit, first_decimal}
 use Rattle.tsdl_grammar.specs.declared.token.TokenKind.TheVariants as kinds
 use Rattle.tsdl_grammar.specs.declared.piece.Piece.TheVariants as pieces
 use Rattle.tsdl_grammar.specs.declared.atom.Atom.{Atom}
 use Rattle.tsdl_grammar.specs.declared.atom.Atom.TheVariants as atoms
-use Rattle.tsdl_grammar.specs.{Literals.literal_of, Literals.digits_from, Atoms.number_atom, Atoms.Spells}
+use Rattle.tsdl_grammar.specs.{Literals.{literal_of, digits_from}, Atoms.{number_atom, Spells}}
 use Rattle.tsdl_grammar.specs.Bytes.{is_blank, is_name_start, is_name_byte, is_suffix, is_octal_digit}
 use Rattle.tsdl_grammar.specs.Pieces.{piece_at, cut, number_len, digits_len, zero_len}
 use Rattle.tsdl_grammar.proofs.{Literals.digits_step, Continuation.piece}

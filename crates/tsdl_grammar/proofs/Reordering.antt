@@ -1,7 +1,7 @@
 -- What lists of the same items in another order have in common.
 use Rattle.std.proofs.Common.{◌≡◌, ℕ, Bool, true, false, not, ◌&&◌, ◌||◌, List, [], ◌∷◌, ◌++◌, map, Option, Some, None, refl, sym, ap, ap₂, subst, ◌∙◌, arith, flat_map}
 use Rattle.std.specs.List.{list_any, list_all}
-use Rattle.std.proofs.lemmas.{List.Concat.flat_map-cons, Bool.Decides.nat_tests, Option.same_Some}
+use Rattle.std.proofs.{lemmas.List.Concat.flat_map-cons, lemmas.Bool.Decides.nat_tests, lemmas.Option.same_Some}
 use Rattle.tsdl_grammar.specs.Steps.{◌>>=◌, each, insert_numbered, by_number}
 use Rattle.tsdl_grammar.specs.Lookups.{no_two}
 use Rattle.tsdl_grammar.specs.Orders.{Reordered, same, neighbours, behind, further}

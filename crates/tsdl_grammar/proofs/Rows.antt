@@ -1,13 +1,15 @@
 -- Worked rows of what blocks mean: a small trace of one stream and one event, and texts that mean nothing.
 use Rattle.std.proofs.Common.{◌≡◌, ℕ, List, [], ◌∷◌, map, Option, Some, None, refl, codes, option_map, replicate}
-use Rattle.ctf_types.specs.declared.{ByteOrder.TheVariants.Big, MemberType.MemberType, MemberType.TheVariants.Plain, MemberType.TheVariants.Dyn, Length.TheVariants.Auto, Length.TheVariants.At}
-use Rattle.tsdl_grammar.specs.declared.tree.{Number.Number, Name.Name, Attribute.Attribute, Bracket.Bracket, MemberTree.MemberTree, Item.Item, Block.Block}
+use Rattle.ctf_types.specs.{declared.ByteOrder.TheVariants.Big, declared.MemberType.MemberType, declared.MemberType.TheVariants.{Plain, Dyn}}
+use Rattle.ctf_types.specs.declared.Length.TheVariants.{Auto, At}
+use Rattle.tsdl_grammar.specs.{declared.tree.Number.Number, declared.tree.Name.Name, declared.tree.Attribute.Attribute, declared.tree.Bracket.Bracket}
+use Rattle.tsdl_grammar.specs.{declared.tree.MemberTree.MemberTree, declared.tree.Item.Item, declared.tree.Block.Block}
 use Rattle.tsdl_grammar.specs.declared.tree.Value.TheVariants as values
 use Rattle.tsdl_grammar.specs.declared.tree.Bracket.TheVariants as brackets
 use Rattle.tsdl_grammar.specs.declared.tree.Kind.TheVariants as kinds
 use Rattle.tsdl_grammar.specs.declared.tree.Item.TheVariants as items
 use Rattle.tsdl_grammar.specs.declared.tree.Block.TheVariants as blocks
-use Rattle.tsdl_grammar.specs.{AttributeValues.flag_value, Denotes.text_meta, Denotes.streams_meaning}
+use Rattle.tsdl_grammar.specs.{AttributeValues.flag_value, Denotes.{text_meta, streams_meaning}}
 use Rattle.tsdl_grammar.specs.IntegerMeaning.{Known, int_meaning, int_type, order_value, clock_value}
 use Rattle.tsdl_grammar.specs.MemberMeaning.{member_meaning, bracketed, kind_meaning}
 use Rattle.tsdl_grammar.specs.StructureMeaning.{struct_meaning, struct_type, members_meaning}

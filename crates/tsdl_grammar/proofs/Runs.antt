@@ -1,8 +1,8 @@
 -- Runs of bytes that pass a test, and what one class of bytes says of another.
 use Rattle.std.proofs.Common.{◌≡◌, ℕ, Bool, true, false, List, [], ◌∷◌, ◌++◌, length, arith, refl}
-use Rattle.std.specs.{List.prefix_len, List.list_all, Char.is_ascii_digit}
+use Rattle.std.specs.{List.{prefix_len, list_all}, Char.is_ascii_digit}
 pub use Rattle.std.proofs.lemmas.Bool.{and_parts as and_true}
-use Rattle.std.proofs.lemmas.{Bool.false_from_ne_true, Bool.Decides.nat_tests, List.Sums.prefix_len-le-length}
+use Rattle.std.proofs.{lemmas.Bool.false_from_ne_true, lemmas.Bool.Decides.nat_tests, lemmas.List.Sums.prefix_len-le-length}
 use Rattle.tsdl_grammar.specs.Bytes.{is_name_byte, is_suffix, is_octal_digit}
 
 -- bytes that all pass, and then none

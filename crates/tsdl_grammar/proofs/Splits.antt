@@ -1,6 +1,6 @@
 -- Cutting a text into pieces, one after the other: what a loop over it keeps, and that there is one way only.
 use Rattle.std.proofs.Common.{◌≡◌, ℕ, ◌+◌, ◌<◌, ◌≤◌, List, [], ◌∷◌, ◌++◌, length, drop, Some, None, arith, refl, sym, ap, subst, ◌∙◌, append_assoc, append-nil, length-drop, drop-drop}
-use Rattle.tsdl_grammar.specs.declared.{token.Token.Token, token.Span.Span, piece.Piece.Piece, piece.Cut.Cut}
+use Rattle.tsdl_grammar.specs.{declared.token.Token.Token, declared.token.Span.Span, declared.piece.Piece.Piece, declared.piece.Cut.Cut}
 use Rattle.tsdl_grammar.specs.declared.piece.Piece.TheVariants as pieces
 use Rattle.tsdl_grammar.specs.Pieces.{piece_at}
 use Rattle.tsdl_grammar.specs.Tokens.{Splits, token_of, tokens_from, Rises, Stuck, Tokenizes, HasTokens}

@@ -2,9 +2,9 @@
 use Rattle.std.proofs.Common.{◌≡◌, ℕ, List, Some, refl, subst, flat_map}
 use Rattle.std.specs.List.{AllByRecursion}
 use Rattle.std.proofs.lemmas.Option.{same_Some}
-use Rattle.ctf_types.specs.declared.{Stream.Stream, Event.Event}
+use Rattle.ctf_types.specs.{declared.Stream.Stream, declared.Event.Event}
 use Rattle.tsdl_grammar.specs.declared.tree.Block.{Block}
-use Rattle.tsdl_grammar.specs.{IntegerMeaning.Known, BlockMeaning.stream_meaning, BlockMeaning.event_meaning, Laws.NumbersRise}
+use Rattle.tsdl_grammar.specs.{IntegerMeaning.Known, BlockMeaning.{stream_meaning, event_meaning}, Laws.NumbersRise}
 use Rattle.tsdl_grammar.specs.Steps.{◌>>=◌, provided, each, by_number}
 use Rattle.tsdl_grammar.specs.Denotes.{stream_in, event_in, events_of, with_events, have_streams, streams_meaning}
 use Rattle.tsdl_grammar.proofs.Inversion.{bind_some, provided_some, by_number-rises, each-rises, each-all}

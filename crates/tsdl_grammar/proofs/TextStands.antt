@@ -8,7 +8,7 @@ use Rattle.tsdl_grammar.specs.declared.atom.Atom.TheVariants as atoms
 use Rattle.tsdl_grammar.specs.Escapes.{escaped}
 use Rattle.tsdl_grammar.specs.Pieces.{piece_at, cut, text_at}
 use Rattle.tsdl_grammar.specs.Atoms.{text_atom, content_of, Spells}
-use Rattle.tsdl_grammar.proofs.{Escaping.content_len-escaped, Escaping.stands_again, EscapesUtf8.IsUtf8-escaped, Continuation.piece}
+use Rattle.tsdl_grammar.proofs.{Escaping.{content_len-escaped, stands_again}, EscapesUtf8.IsUtf8-escaped, Continuation.piece}
 
 text_at-escaped : (text rest : List ℕ) → IsUtf8 text → piece_at (34 ∷ (escaped text ++ 34 ∷ rest)) ≡ Some (cut (pieces.Token kinds.Text) (2 + length (escaped text)))
 unfolding piece_at text_at

@@ -2,7 +2,7 @@
 use Rattle.std.proofs.Common.{◌≡◌, ℕ, ◌+◌, ◌<◌, ◌≤◌, List, [], ◌∷◌, ◌++◌, length, drop, slice_get, Option, Some, None, refl, sym, ap, ◌∙◌, arith, length-append}
 use Rattle.std.proofs.Math.Seq.{get_or-append_seam}
 use Rattle.std.proofs.lemmas.Option.{slice_get_past, slice_get_read}
-use Rattle.tsdl_grammar.specs.declared.{token.Token.Token, token.TokenKind.TokenKind, piece.Cut.Cut}
+use Rattle.tsdl_grammar.specs.{declared.token.Token.Token, declared.token.TokenKind.TokenKind, declared.piece.Cut.Cut}
 use Rattle.tsdl_grammar.specs.declared.piece.Piece.TheVariants as pieces
 use Rattle.tsdl_grammar.specs.Pieces.{piece_at}
 use Rattle.tsdl_grammar.specs.Tokens.{Splits, token_of, tokens_from, start_of, Tokenizes}

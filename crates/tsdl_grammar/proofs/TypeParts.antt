@@ -4,7 +4,7 @@ use Rattle.std.specs.Coded.{le_prop}
 use Rattle.std.proofs.Props.{props}
 use Rattle.std.proofs.lemmas.Option.{same_Some}
 use Rattle.std.proofs.lemmas.Bool.{lt-ltb, le-leb, eq-eqb, ltb-true, leb-true, eqb-true}
-use Rattle.ctf_types.specs.declared.{Base.Base, IntType.IntType, MemberType.MemberType, StructType.StructType}
+use Rattle.ctf_types.specs.{declared.Base.Base, declared.IntType.IntType, declared.MemberType.MemberType, declared.StructType.StructType}
 use Rattle.ctf_types.specs.Alignment.{IsAlignment}
 use Rattle.tsdl_grammar.specs.{Steps.proved, IntegerMeaning.int_type, StructureMeaning.struct_type}
 

@@ -1,14 +1,14 @@
 -- A blank and a word at the front of bytes, and what may follow a word: no byte that a name has.
 use Rattle.std.proofs.Common.{◌≡◌, ℕ, zero, suc, ◌+◌, ◌<◌, true, false, List, [], ◌∷◌, ◌++◌, length, Some, arith, refl, sym, ap, subst, ◌∙◌, IsAscii}
 use Rattle.std.specs.List.{prefix_len, list_all}
-use Rattle.std.proofs.lemmas.{Bool.Decides.nat_tests, Str.IsUtf8-from_ascii, Str.is_utf8-from_IsUtf8}
+use Rattle.std.proofs.{lemmas.Bool.Decides.nat_tests, lemmas.Str.{IsUtf8-from_ascii, is_utf8-from_IsUtf8}}
 use Rattle.tsdl_grammar.specs.declared.token.TokenKind.TheVariants as kinds
 use Rattle.tsdl_grammar.specs.declared.piece.Piece.TheVariants as pieces
 use Rattle.tsdl_grammar.specs.declared.atom.Atom.{Atom}
 use Rattle.tsdl_grammar.specs.declared.atom.Atom.TheVariants as atoms
-use Rattle.tsdl_grammar.specs.{Pieces.piece_at, Pieces.cut, Atoms.word_atom, Atoms.Spells}
+use Rattle.tsdl_grammar.specs.{Pieces.{piece_at, cut}, Atoms.{word_atom, Spells}}
 use Rattle.tsdl_grammar.specs.Bytes.{is_blank, is_name_start, is_name_byte}
-use Rattle.tsdl_grammar.proofs.{Runs.and_true, Runs.prefix_len-whole, Continuation.piece}
+use Rattle.tsdl_grammar.proofs.{Runs.{and_true, prefix_len-whole}, Continuation.piece}
 
 -- a blank in front changes nothing
 pub blank : (b : ℕ) (rest : List ℕ) (meant : List Atom) → is_blank b ≡ true → Spells rest meant → Spells (b ∷ rest) meant

@@ -2,10 +2,11 @@
 -- A literal above 2^64 - 1 means no number, so no rule of the grammar reads it.
 use Rattle.std.specs.Prelude.{◌≡◌, ℕ, ◌-◌, ◌^◌, nat_lt, if◌then◌else◌, List, [], ◌∷◌, ◌++◌, map, length, take, drop, slice_range}
 use Rattle.std.specs.Str.{is_utf8}
-use Rattle.tsdl_grammar.specs.declared.{atom.Atom.Atom, token.Token.Token, token.TokenKind.TokenKind, piece.Piece.Piece, piece.Cut.Cut}
+use Rattle.tsdl_grammar.specs.{declared.atom.Atom.Atom, declared.token.Token.Token, declared.token.TokenKind.TokenKind, declared.piece.Piece.Piece}
+use Rattle.tsdl_grammar.specs.declared.piece.Cut.{Cut}
 use Rattle.tsdl_grammar.specs.declared.atom.Atom.TheVariants as atoms
 use Rattle.tsdl_grammar.specs.declared.token.TokenKind.TheVariants as kinds
-use Rattle.tsdl_grammar.specs.{Escapes.unescaped, Literals.literal_of, Tokens.Splits, Tokens.Tokenizes}
+use Rattle.tsdl_grammar.specs.{Escapes.unescaped, Literals.literal_of, Tokens.{Splits, Tokenizes}}
 use Rattle.tsdl_grammar.specs.declared.piece.Piece.TheVariants as pieces
 
 -- what stands between a string's quotes

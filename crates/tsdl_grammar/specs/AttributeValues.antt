@@ -1,7 +1,8 @@
 -- What the values of attributes stand for: numbers in their ranges, flags, texts, words and identifiers of traces.
 use Rattle.std.specs.Prelude.{ℕ, ◌^◌, Bool, true, false, ◌==◌, nat_lt, nat_le, if◌then◌else◌, List, [], ◌∷◌, Option, Some, None, ℤ, pos, neg_ℤ, codes, option_map, bytes_eq}
 use Rattle.uuid.specs.Text.{parsed}
-use Rattle.tsdl_grammar.specs.declared.tree.{Sign.Sign, Sign.TheVariants.Minus, Number.Number, Name.Name, Value.Value}
+use Rattle.tsdl_grammar.specs.{declared.tree.Sign.Sign, declared.tree.Sign.TheVariants.Minus, declared.tree.Number.Number, declared.tree.Name.Name}
+use Rattle.tsdl_grammar.specs.declared.tree.Value.{Value}
 use Rattle.tsdl_grammar.specs.declared.tree.Value.TheVariants as values
 use Rattle.tsdl_grammar.specs.Steps.{◌>>=◌, provided}
 

@@ -2,12 +2,15 @@
 -- defaults, and the structures of their scopes. An attribute that no rule names is passed over. A number that is left out is 0.
 use Rattle.std.specs.Prelude.{ℕ, Bool, true, false, not, ◌&&◌, ◌||◌, ◌==◌, nat_le, if◌then◌else◌, List, [], ◌∷◌, length, map, Option, Some, pos, codes, option_map, bytes_eq}
 use Rattle.std.specs.{Option.option_map_or, List.list_any}
-use Rattle.ctf_types.specs.declared.{ByteOrder.ByteOrder, ByteOrder.TheVariants.Little, ByteOrder.TheVariants.Big, FieldType.TheVariants.Int, FieldType.TheVariants.Static, MemberType.MemberType, MemberType.TheVariants.Plain, StructType.StructType, ClockType.ClockType, EnvironmentEntry.EnvironmentEntry, EnvironmentValue.EnvironmentValue, Stream.Stream, Event.Event}
+use Rattle.ctf_types.specs.{declared.ByteOrder.ByteOrder, declared.ByteOrder.TheVariants.{Little, Big}, declared.FieldType.TheVariants.{Int, Static}}
+use Rattle.ctf_types.specs.{declared.MemberType.MemberType, declared.MemberType.TheVariants.Plain, declared.StructType.StructType, declared.ClockType.ClockType}
+use Rattle.ctf_types.specs.{declared.EnvironmentEntry.EnvironmentEntry, declared.EnvironmentValue.EnvironmentValue, declared.Stream.Stream}
+use Rattle.ctf_types.specs.declared.Event.{Event}
 use Rattle.ctf_types.specs.declared.EnvironmentValue.TheVariants as environment
 use Rattle.ctf_types.specs.Chain.{Leaf, Number}
-use Rattle.tsdl_grammar.specs.declared.tree.{Attribute.Attribute, Item.Item, Fact.Fact, NamedFact.NamedFact}
+use Rattle.tsdl_grammar.specs.{declared.tree.Attribute.Attribute, declared.tree.Item.Item, declared.tree.Fact.Fact, declared.tree.NamedFact.NamedFact}
 use Rattle.tsdl_grammar.specs.declared.tree.Fact.TheVariants as facts
-use Rattle.tsdl_grammar.specs.{IntegerMeaning.Known, MemberMeaning.is_unsigned, StructureMeaning.scope_meaning, StructureMeaning.has_member}
+use Rattle.tsdl_grammar.specs.{IntegerMeaning.Known, MemberMeaning.is_unsigned, StructureMeaning.{scope_meaning, has_member}}
 use Rattle.tsdl_grammar.specs.Steps.{◌>>=◌, provided, each}
 use Rattle.tsdl_grammar.specs.Lookups.{attr, attrs_in, scopes_in, has_parts, no_two}
 use Rattle.tsdl_grammar.specs.AttributeValues.{natural_value, whole, whole_value, text_value, word_value, name_value, flag_value, uuid_value, meant_by, with_default, optional}

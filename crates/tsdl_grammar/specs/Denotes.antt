@@ -3,10 +3,11 @@
 -- case, the text denotes nothing.
 use Rattle.std.specs.Prelude.{◌≡◌, ℕ, Bool, true, not, ◌==◌, if◌then◌else◌, List, [], ◌∷◌, map, Option, Some, flat_map, bytes_eq}
 use Rattle.std.specs.List.{list_all, list_any}
-use Rattle.ctf_types.specs.declared.{ByteOrder.ByteOrder, ClockType.ClockType, Metadata.Metadata, Stream.Stream, Event.Event}
+use Rattle.ctf_types.specs.{declared.ByteOrder.ByteOrder, declared.ClockType.ClockType, declared.Metadata.Metadata, declared.Stream.Stream}
+use Rattle.ctf_types.specs.declared.Event.{Event}
 use Rattle.ctf_types.specs.Names.{unused_keywords}
 use Rattle.tsdl_grammar.specs.declared.atom.Atom.{Atom}
-use Rattle.tsdl_grammar.specs.declared.tree.{Item.Item, NamedFact.NamedFact, Block.Block}
+use Rattle.tsdl_grammar.specs.{declared.tree.Item.Item, declared.tree.NamedFact.NamedFact, declared.tree.Block.Block}
 use Rattle.tsdl_grammar.specs.declared.atom.Atom.TheVariants as atoms
 use Rattle.tsdl_grammar.specs.declared.tree.Block.TheVariants as blocks
 use Rattle.tsdl_grammar.specs.{Tokens.HasMagicLine, Atoms.Reads, Spelling.text_toks, Lookups.no_two, IntegerMeaning.Known}

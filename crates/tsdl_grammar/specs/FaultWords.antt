@@ -3,7 +3,7 @@ use Rattle.std.specs.Prelude.{◌≡◌, ◌≤◌, ◌<◌, ℕ, List, [], ◌+
 use Rattle.std.specs.{Fmt.debug_str, Option.option_map_or, Str.Lossy.utf8_lossy}
 use Rattle.tsdl_grammar.specs.declared.fault.MetaFaultKind.{MetaFaultKind}
 use Rattle.tsdl_grammar.specs.declared.fault.MetaFaultKind.TheVariants as faults
-use Rattle.tsdl_grammar.specs.{Pieces.piece_at, Positions.line_after, Positions.column_after}
+use Rattle.tsdl_grammar.specs.{Pieces.piece_at, Positions.{line_after, column_after}}
 
 -- what is wrong, by the kind of the fault
 abbrev pub kind_words : MetaFaultKind → List ℕ

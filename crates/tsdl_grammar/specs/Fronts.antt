@@ -1,8 +1,8 @@
 -- The atoms of a text, one after the other: what the token at its front means, and what those behind it mean.
 use Rattle.std.specs.Prelude.{ℕ, zero, suc, ◌-◌, List, [], ◌∷◌, ◌++◌, length, take, Option, Some, None}
-use Rattle.tsdl_grammar.specs.declared.{atom.Atom.Atom, piece.Cut.Cut, front.Front.Front, front.Atoms.Atoms}
+use Rattle.tsdl_grammar.specs.{declared.atom.Atom.Atom, declared.piece.Cut.Cut, declared.front.Front.Front, declared.front.Atoms.Atoms}
 use Rattle.tsdl_grammar.specs.declared.atom.Atom.TheVariants as atoms
-use Rattle.tsdl_grammar.specs.{Pieces.piece_at, Atoms.meaning_of, Atoms.piece_atoms}
+use Rattle.tsdl_grammar.specs.{Pieces.piece_at, Atoms.{meaning_of, piece_atoms}}
 
 -- what the piece at the front of the bytes means, nothing where none begins there
 abbrev pub front_atoms : Option Cut → List ℕ → List Atom

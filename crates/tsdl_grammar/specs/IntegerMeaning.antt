@@ -4,8 +4,9 @@
 use Rattle.std.specs.Prelude.{ℕ, ◌%◌, Bool, false, ◌&&◌, ◌==◌, nat_lt, nat_le, if◌then◌else◌, List, [], ◌∷◌, Option, Some, None, codes, bytes_eq}
 use Rattle.std.specs.List.{list_all, list_any}
 use Rattle.std.proofs.lemmas.Bool.{ltb-true, leb-true, eqb-true}
-use Rattle.ctf_types.specs.declared.{ByteOrder.ByteOrder, ByteOrder.TheVariants.Little, ByteOrder.TheVariants.Big, Base.Base, Base.TheVariants.Bin, Base.TheVariants.Oct, Base.TheVariants.Dec, Base.TheVariants.Hex, IntType.IntType}
-use Rattle.tsdl_grammar.specs.declared.tree.{Value.Value, Attribute.Attribute}
+use Rattle.ctf_types.specs.{declared.ByteOrder.ByteOrder, declared.ByteOrder.TheVariants.{Little, Big}, declared.Base.Base}
+use Rattle.ctf_types.specs.{declared.Base.TheVariants.{Bin, Oct, Dec, Hex}, declared.IntType.IntType}
+use Rattle.tsdl_grammar.specs.{declared.tree.Value.Value, declared.tree.Attribute.Attribute}
 use Rattle.tsdl_grammar.specs.declared.tree.Value.TheVariants as values
 use Rattle.tsdl_grammar.specs.Steps.{◌>>=◌, provided, proved}
 use Rattle.tsdl_grammar.specs.Lookups.{words_of, attr, attr_names, are_distinct, is_among}

@@ -1,7 +1,8 @@
 -- What the meaning of a text says in the subject's words: where each part of an integer, of a structure and of the metadata comes from.
 use Rattle.std.specs.Prelude.{◌≡◌, ℕ, ◌<◌, true, false, ◌&&◌, nat_le, List, [], ◌∷◌, length, map, slice_index_or, Some, IsTrue, pos, codes, flat_map, bytes_eq}
-use Rattle.ctf_types.specs.declared.{Base.TheVariants.Dec, IntType.IntType, MemberType.MemberType, StructType.StructType, ClockType.ClockType, Metadata.Metadata, Stream.Stream, Event.Event}
-use Rattle.tsdl_grammar.specs.declared.tree.{Attribute.Attribute, Structure.Structure, Item.Item, Block.Block}
+use Rattle.ctf_types.specs.{declared.Base.TheVariants.Dec, declared.IntType.IntType, declared.MemberType.MemberType, declared.StructType.StructType}
+use Rattle.ctf_types.specs.{declared.ClockType.ClockType, declared.Metadata.Metadata, declared.Stream.Stream, declared.Event.Event}
+use Rattle.tsdl_grammar.specs.{declared.tree.Attribute.Attribute, declared.tree.Structure.Structure, declared.tree.Item.Item, declared.tree.Block.Block}
 use Rattle.tsdl_grammar.specs.Steps.{◌>>=◌, only, at_most_one, each}
 use Rattle.tsdl_grammar.specs.Lookups.{attr, attrs_in, scopes_in, has_parts, no_two}
 use Rattle.tsdl_grammar.specs.AttributeValues.{natural_value, whole_value, text_value, name_value, uuid_value, flag_value, with_default, optional}

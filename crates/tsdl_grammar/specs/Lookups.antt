@@ -1,7 +1,8 @@
 -- Names, and what stands under a name: attributes and scopes are looked up by their words, and no name stands twice.
 use Rattle.std.specs.Prelude.{ℕ, Bool, true, ◌&&◌, not, if◌then◌else◌, List, [], ◌∷◌, map, Option, Some, None, flat_map, bytes_eq}
-use Rattle.std.specs.{List.list_any, List.list_all, Cmp.Lexicographic.pointwise}
-use Rattle.tsdl_grammar.specs.declared.tree.{Name.Name, Value.Value, Attribute.Attribute, Structure.Structure, Scope.Scope, Item.Item}
+use Rattle.std.specs.{List.{list_any, list_all}, Cmp.Lexicographic.pointwise}
+use Rattle.tsdl_grammar.specs.{declared.tree.Name.Name, declared.tree.Value.Value, declared.tree.Attribute.Attribute, declared.tree.Structure.Structure}
+use Rattle.tsdl_grammar.specs.{declared.tree.Scope.Scope, declared.tree.Item.Item}
 use Rattle.tsdl_grammar.specs.declared.tree.Item.TheVariants as items
 
 -- the words of a name

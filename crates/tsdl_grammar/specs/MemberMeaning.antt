@@ -3,9 +3,13 @@
 -- that stands before, and the sequence's elements have bits.
 use Rattle.std.specs.Prelude.{ℕ, ◌*◌, ◌^◌, max, Bool, true, false, not, ◌&&◌, nat_lt, nat_le, List, [], ◌∷◌, length, Option, Some, None, ℤ, int_le, codes, position, bytes_eq, option_map}
 use Rattle.std.specs.List.{list_all}
-use Rattle.ctf_types.specs.declared.{IntType.IntType, EnumType.EnumType, Mapping.Mapping, FieldType.FieldType, FieldType.TheVariants.Int, FieldType.TheVariants.Enum, FieldType.TheVariants.Str, FieldType.TheVariants.Static, MemberType.MemberType, MemberType.TheVariants.Plain, MemberType.TheVariants.Dyn, Length.TheVariants.At}
+use Rattle.ctf_types.specs.{declared.IntType.IntType, declared.EnumType.EnumType, declared.Mapping.Mapping, declared.FieldType.FieldType}
+use Rattle.ctf_types.specs.{declared.FieldType.TheVariants.{Int, Enum, Str, Static}, declared.MemberType.MemberType}
+use Rattle.ctf_types.specs.{declared.MemberType.TheVariants.{Plain, Dyn}, declared.Length.TheVariants.At}
 use Rattle.ctf_types.specs.Chain.{Leaf, Number, Labelled, ByteString}
-use Rattle.tsdl_grammar.specs.declared.tree.{Value.Value, Attribute.Attribute, Label.Label, Label.TheVariants.Quoted, Label.TheVariants.Bare, Entry.Entry, Entries.Entries, Kind.Kind, Bracket.Bracket, MemberTree.MemberTree}
+use Rattle.tsdl_grammar.specs.{declared.tree.Value.Value, declared.tree.Attribute.Attribute, declared.tree.Label.Label}
+use Rattle.tsdl_grammar.specs.{declared.tree.Label.TheVariants.{Quoted, Bare}, declared.tree.Entry.Entry, declared.tree.Entries.Entries}
+use Rattle.tsdl_grammar.specs.{declared.tree.Kind.Kind, declared.tree.Bracket.Bracket, declared.tree.MemberTree.MemberTree}
 use Rattle.tsdl_grammar.specs.declared.tree.Entries.TheVariants as entries
 use Rattle.tsdl_grammar.specs.declared.tree.Number as numbers
 use Rattle.tsdl_grammar.specs.declared.tree.Kind.TheVariants as kinds

@@ -1,7 +1,7 @@
 -- Blocks and items in another order, and metadata that differs in the order of its clocks or of its environment alone.
 use Rattle.std.specs.Prelude.{◌≡◌, List, [], ◌∷◌}
 use Rattle.ctf_types.specs.declared.Metadata.{Metadata}
-use Rattle.tsdl_grammar.specs.declared.tree.{Item.Item, NamedFact.NamedFact, Block.Block}
+use Rattle.tsdl_grammar.specs.{declared.tree.Item.Item, declared.tree.NamedFact.NamedFact, declared.tree.Block.Block}
 use Rattle.tsdl_grammar.specs.declared.tree.Block.TheVariants as blocks
 
 -- the same items in another order: neighbours change places, as often as need be

@@ -1,8 +1,10 @@
 -- The longest piece at the front of a text: a blank, a comment of either kind or a token (CTF 1.8.3, appendix C.1).
 -- No piece is there at the end, at a byte that begins none, and at a string or a comment that has no end.
 use Rattle.std.specs.Prelude.{ℕ, ◌+◌, min, Bool, true, false, ◌==◌, ◌&&◌, if◌then◌else◌, List, [], ◌∷◌, take, drop, Option, Some, None, is_some, option_map, option_and_then}
-use Rattle.std.specs.{List.prefix_len, Str.is_utf8, Char.is_ascii_digit, Char.is_ascii_hexdigit}
-use Rattle.tsdl_grammar.specs.declared.{token.Mark.Mark, token.Mark.TheVariants.OpenBrace, token.Mark.TheVariants.CloseBrace, token.Mark.TheVariants.OpenBracket, token.Mark.TheVariants.CloseBracket, token.Mark.TheVariants.OpenParenthesis, token.Mark.TheVariants.CloseParenthesis, token.Mark.TheVariants.Semicolon, token.Mark.TheVariants.Comma, token.Mark.TheVariants.Colon, token.Mark.TheVariants.Equals, token.Mark.TheVariants.Minus, token.Mark.TheVariants.Plus, token.Mark.TheVariants.Dot, token.Mark.TheVariants.Assign, token.Mark.TheVariants.Ellipsis, piece.Piece.Piece, piece.Cut.Cut}
+use Rattle.std.specs.{List.prefix_len, Str.is_utf8, Char.{is_ascii_digit, is_ascii_hexdigit}}
+use Rattle.tsdl_grammar.specs.declared.token.Mark.{Mark}
+use Rattle.tsdl_grammar.specs.declared.token.Mark.TheVariants.{OpenBrace, CloseBrace, OpenBracket, CloseBracket, OpenParenthesis, CloseParenthesis, Semicolon, Comma, Colon, Equals, Minus, Plus, Dot, Assign, Ellipsis}
+use Rattle.tsdl_grammar.specs.{declared.piece.Piece.Piece, declared.piece.Cut.Cut}
 use Rattle.tsdl_grammar.specs.declared.token.TokenKind.TheVariants as kinds
 use Rattle.tsdl_grammar.specs.declared.piece.Piece.TheVariants as pieces
 use Rattle.tsdl_grammar.specs.Bytes.{is_blank, is_name_start, is_name_byte, is_octal_digit, is_suffix, not_newline}

@@ -1,8 +1,13 @@
 -- How trees are spelled in words, numbers, strings and marks: the grammar of the metadata texts that are read
 -- (CTF 1.8.3, section 7 and appendix C, narrowed). Each rule of the grammar is one line.
 use Rattle.std.specs.Prelude.{ℕ, List, [], ◌∷◌, ◌++◌, Option, Some, None, codes, flat_map}
-use Rattle.tsdl_grammar.specs.declared.{token.Mark.Mark, atom.Atom.Atom}
-use Rattle.tsdl_grammar.specs.declared.tree.{Sign.Sign, Sign.TheVariants.Plus, Sign.TheVariants.Minus, Number.Number, Name.Name, Value.Value, Attribute.Attribute, Label.Label, Label.TheVariants.Quoted, Label.TheVariants.Bare, Entry.Entry, Closing.Closing, Entries.Entries, Kind.Kind, Bracket.Bracket, MemberTree.MemberTree, Structure.Structure, Scope.Scope, Item.Item, Fact.Fact, NamedFact.NamedFact, Block.Block}
+use Rattle.tsdl_grammar.specs.{declared.token.Mark.Mark, declared.atom.Atom.Atom}
+use Rattle.tsdl_grammar.specs.{declared.tree.Sign.Sign, declared.tree.Sign.TheVariants.{Plus, Minus}, declared.tree.Number.Number, declared.tree.Name.Name}
+use Rattle.tsdl_grammar.specs.{declared.tree.Value.Value, declared.tree.Attribute.Attribute, declared.tree.Label.Label}
+use Rattle.tsdl_grammar.specs.{declared.tree.Label.TheVariants.{Quoted, Bare}, declared.tree.Entry.Entry, declared.tree.Closing.Closing}
+use Rattle.tsdl_grammar.specs.{declared.tree.Entries.Entries, declared.tree.Kind.Kind, declared.tree.Bracket.Bracket, declared.tree.MemberTree.MemberTree}
+use Rattle.tsdl_grammar.specs.{declared.tree.Structure.Structure, declared.tree.Scope.Scope, declared.tree.Item.Item, declared.tree.Fact.Fact}
+use Rattle.tsdl_grammar.specs.{declared.tree.NamedFact.NamedFact, declared.tree.Block.Block}
 use Rattle.tsdl_grammar.specs.declared.token.Mark.TheVariants as marks
 use Rattle.tsdl_grammar.specs.declared.atom.Atom.TheVariants as atoms
 use Rattle.tsdl_grammar.specs.declared.tree.Value.TheVariants as values

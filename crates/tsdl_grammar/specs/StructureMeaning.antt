@@ -3,8 +3,8 @@
 use Rattle.std.specs.Prelude.{ℕ, ◌%◌, Bool, not, ◌&&◌, ◌==◌, nat_lt, nat_le, List, [], ◌∷◌, ◌++◌, length, Option, Some, None, bytes_eq}
 use Rattle.std.specs.List.{list_any, list_all}
 use Rattle.std.proofs.lemmas.Bool.{ltb-true, eqb-true}
-use Rattle.ctf_types.specs.declared.{MemberType.MemberType, StructType.StructType}
-use Rattle.tsdl_grammar.specs.declared.tree.{Number.Number, MemberTree.MemberTree, Structure.Structure, Scope.Scope}
+use Rattle.ctf_types.specs.{declared.MemberType.MemberType, declared.StructType.StructType}
+use Rattle.tsdl_grammar.specs.{declared.tree.Number.Number, declared.tree.MemberTree.MemberTree, declared.tree.Structure.Structure, declared.tree.Scope.Scope}
 use Rattle.tsdl_grammar.specs.{Lookups.scope, AttributeValues.natural, IntegerMeaning.Known, MemberMeaning.member_meaning}
 use Rattle.tsdl_grammar.specs.Steps.{◌>>=◌, provided, proved}
 

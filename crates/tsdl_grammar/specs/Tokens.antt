@@ -2,7 +2,8 @@
 -- A text is cut into its pieces from the front on, each as long as it can be; blanks and comments are no tokens.
 use Rattle.std.specs.Prelude.{◌≡◌, ◌≢◌, ℕ, ◌+◌, ◌≤◌, ◌<◌, List, [], ◌∷◌, ◌++◌, length, drop, Option, Some, None, codes, Result, Ok, Err}
 use Rattle.std.specs.Global.{Vec}
-use Rattle.tsdl_grammar.specs.declared.{token.Mark.Mark, token.Token.Token, token.Span.Span, piece.Piece.Piece, piece.Cut.Cut, fault.MetaFault.MetaFault, fault.MetaFaultKind.MetaFaultKind}
+use Rattle.tsdl_grammar.specs.{declared.token.Mark.Mark, declared.token.Token.Token, declared.token.Span.Span, declared.piece.Piece.Piece}
+use Rattle.tsdl_grammar.specs.{declared.piece.Cut.Cut, declared.fault.MetaFault.MetaFault, declared.fault.MetaFaultKind.MetaFaultKind}
 use Rattle.tsdl_grammar.specs.declared.token.Mark.TheVariants as marks
 use Rattle.tsdl_grammar.specs.declared.piece.Piece.TheVariants as pieces
 use Rattle.tsdl_grammar.specs.declared.fault.MetaFaultKind.TheVariants as faults

@@ -1,7 +1,7 @@
 //! What a token means by itself: a word, a number, a string's text or a mark.
 
 ghost use Rattle.std.specs.Prelude.{◌≡◌, ◌≤◌, length, IfOk};
-ghost use Rattle.tsdl_grammar.specs.{Atoms.atom_of, Atoms.atoms_of, Atoms.meaning_of, Tokens.Rises};
+ghost use Rattle.tsdl_grammar.specs.{Atoms.{atom_of, atoms_of, meaning_of}, Tokens.Rises};
 
 use crate::escapes::unescape;
 use crate::literal::literal_value;

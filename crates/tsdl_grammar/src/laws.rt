@@ -2,9 +2,13 @@
 
 ghost use Rattle.std.specs.Prelude.{◌≡◌, ℕ, ◌<◌, ◌^◌, false, List, Some, None, codes, IsUtf8, decimal};
 ghost use Rattle.std.specs.List.{AllByRecursion};
-ghost use Rattle.ctf_types.specs.declared.{Base.TheVariants.Dec, ClockType.ClockType, Event.Event, FieldType.FieldType, IntType.IntType, Length.TheVariants.At, MemberType.MemberType, MemberType.TheVariants.Dyn, Metadata.Metadata, Stream.Stream, StructType.StructType};
-ghost use Rattle.tsdl_grammar.specs.declared.{token.Token.Token, tree.Attribute.Attribute, tree.Block.Block, tree.Item.Item, tree.MemberTree.MemberTree, tree.Structure.Structure};
-ghost use Rattle.tsdl_grammar.specs.{Denotes.text_meta, Escapes.escaped, Escapes.unescaped, Literals.literal_of, Lookups.attr, MemberMeaning.member_meaning, StructureMeaning.struct_meaning, Tokens.StopsAt, Tokens.Tokenizes};
+ghost use Rattle.ctf_types.specs.{declared.Base.TheVariants.Dec, declared.ClockType.ClockType, declared.Event.Event, declared.FieldType.FieldType};
+ghost use Rattle.ctf_types.specs.{declared.IntType.IntType, declared.Length.TheVariants.At, declared.MemberType.MemberType};
+ghost use Rattle.ctf_types.specs.{declared.MemberType.TheVariants.Dyn, declared.Metadata.Metadata, declared.Stream.Stream, declared.StructType.StructType};
+ghost use Rattle.tsdl_grammar.specs.{declared.token.Token.Token, declared.tree.Attribute.Attribute, declared.tree.Block.Block, declared.tree.Item.Item};
+ghost use Rattle.tsdl_grammar.specs.{declared.tree.MemberTree.MemberTree, declared.tree.Structure.Structure};
+ghost use Rattle.tsdl_grammar.specs.{Denotes.text_meta, Escapes.{escaped, unescaped}, Literals.literal_of, Lookups.attr, MemberMeaning.member_meaning};
+ghost use Rattle.tsdl_grammar.specs.{StructureMeaning.struct_meaning, Tokens.{StopsAt, Tokenizes}};
 ghost use Rattle.tsdl_grammar.specs.IntegerMeaning.{Known, default_align, int_meaning};
 ghost use Rattle.tsdl_grammar.specs.BlockMeaning.{clock_meaning, stream_meaning, event_meaning};
 ghost use Rattle.tsdl_grammar.specs.Orders.{Reordered, SameItems, Paired, SameButClockOrder, SameButEnvironmentOrder};

@@ -1,7 +1,7 @@
 //! The longest piece at the front of a text: a blank, a comment or a token.
 
 ghost use Rattle.std.specs.Prelude.{◌≡◌, ◌<◌, ◌≤◌, ◌+◌, true, false, length, option_map, IfSome, MatchOption};
-ghost use Rattle.std.specs.{Char.is_ascii_digit, Char.is_ascii_hexdigit, List.prefix_len, Str.is_utf8};
+ghost use Rattle.std.specs.{Char.{is_ascii_digit, is_ascii_hexdigit}, List.prefix_len, Str.is_utf8};
 ghost use Rattle.tsdl_grammar.specs.Bytes.{is_name_byte, is_octal_digit, is_suffix, not_newline};
 ghost use Rattle.tsdl_grammar.specs.Pieces.{piece_at, mark_at, mark_cut, close_len, content_len, number_len, digits_len};
 

@@ -1,7 +1,7 @@
 //! Faults of a metadata text as people read them: with line, column and what stands there.
 
 ghost use Rattle.std.specs.Prelude.{◌≡◌, ◌≤◌, length, take, min, IfOk, string_bytes};
-ghost use Rattle.tsdl_grammar.specs.{FaultWords.IsFoundAt, FaultWords.IsQuoted, FaultWords.IsSaidOf, Positions.column_after, Positions.line_after};
+ghost use Rattle.tsdl_grammar.specs.{FaultWords.{IsFoundAt, IsQuoted, IsSaidOf}, Positions.{column_after, line_after}};
 
 use crate::piece::piece_at;
 use std::alloc::{AllocError, Global};

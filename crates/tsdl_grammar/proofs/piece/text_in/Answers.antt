@@ -1,6 +1,6 @@
 use Rattle.std.proofs.Common.{◌≡◌, true, false, ℕ, List, Result, Ok, Err, MatchOption, MatchResult, IsUtf8}
 use Rattle.std.specs.{Result.result_ok, Str.is_utf8}
-use Rattle.std.proofs.lemmas.{Bool.false_from_ne_true, Str.IsUtf8-from_is_utf8, Str.is_utf8-from_IsUtf8}
+use Rattle.std.proofs.{lemmas.Bool.false_from_ne_true, lemmas.Str.{IsUtf8-from_is_utf8, is_utf8-from_IsUtf8}}
 use Rattle.tsdl_grammar.proofs.piece.text_in.Goals as goal
 
 as_text : {T E : Type 0} (now : T → List ℕ) (Q : E → Type 0) (bytes : List ℕ) (r : Result T E) → MatchResult r (λ t. (now t ≡ bytes) × IsUtf8 bytes) (λ e. ¬ (IsUtf8 bytes) × Q e)

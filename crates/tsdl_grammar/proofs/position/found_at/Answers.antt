@@ -1,5 +1,5 @@
 use Rattle.std.proofs.Common.{◌≡◌, ℕ, List, ◌++◌, ◌∙◌, subst, string_bytes, append_assoc, codes, decimal}
-use Rattle.std.proofs.lemmas.{List.take_rest, Result.IfOk-weaker}
+use Rattle.std.proofs.{lemmas.List.take_rest, lemmas.Result.IfOk-weaker}
 use Rattle.tsdl_grammar.specs.FaultWords.{IsFoundAt}
 use Rattle.tsdl_grammar.proofs.position.found_at.Goals as goal
 

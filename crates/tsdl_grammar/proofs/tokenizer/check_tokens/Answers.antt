@@ -1,5 +1,5 @@
 use Rattle.std.proofs.Common.{length, drop, arith, sym, ap, length-drop}
-use Rattle.std.proofs.lemmas.{Bool.Decides.Decides-eqb, List.take_rest, List.drop_all, Slice.Eq.starts_is}
+use Rattle.std.proofs.{lemmas.Bool.Decides.Decides-eqb, lemmas.List.{take_rest, drop_all}, lemmas.Slice.Eq.starts_is}
 use Rattle.tsdl_grammar.specs.Tokens.{HasMagicLine, magic_line, Stuck}
 use Rattle.tsdl_grammar.proofs.Splits.{goes_on, is_done, no_stop}
 use Rattle.tsdl_grammar.proofs.tokenizer.check_tokens.Goals as goal
