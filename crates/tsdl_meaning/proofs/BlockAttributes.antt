@@ -1,6 +1,6 @@
 -- The parts of a block where it is judged: its attributes, its scopes, its tables, and numbers that stand twice.
 use Rattle.std.proofs.Common.{◌≡◌, ℕ, ◌+◌, ◌<◌, length, take, get_or, List, [], ◌∷◌, ◌++◌, Some, None, min, refl, sym, ap, ◌∙◌, subst, inl, inr, arith, append_assoc, codes, Result, Bool, true, false, not, ◌&&◌, cond, Option, Bor}
-use Rattle.tsdl_meaning.proofs.TextWords.{AreNoted, Atom, Attribute, BlockKind, Ends, HasClock, HasEvent, HasNumbers, HasStream, IfErr, IsAttribute, IsBegun, IsErrAnd, IsPartOfVersion, IsTwice, IsUnsupported, Item, Name, Scope, ScopeRule, StandsBehind, Stop, StopsIn, StopsWhere, Value, alone, attr, attr_toks, attrs_in, begun, dotted, first_texts, flat_map, item_toks, items_toks, list_all, mark, most, name_toks, name_value, named_rules, natural_value, one_word, rule_in, same_words, scope_toks, stops_after, struct_toks, texts_of, value_toks, word, word_of}
+use Rattle.tsdl_meaning.proofs.TextWords.{AreNoted, Atom, Attribute, Ends, HasClock, HasEvent, HasNumbers, HasStream, IfErr, IsAttribute, IsBegun, IsErrAnd, IsPartOfVersion, IsTwice, IsUnsupported, Item, Name, Scope, ScopeRule, StandsBehind, Stop, StopsIn, StopsWhere, Value, alone, attr, attr_toks, attrs_in, begun, dotted, first_texts, flat_map, item_toks, items_toks, list_all, mark, most, name_toks, name_value, named_rules, natural_value, one_word, rule_in, same_words, scope_toks, stops_after, struct_toks, texts_of, value_toks, word, word_of}
 use Rattle.tsdl_grammar.specs.declared.token.Mark.TheVariants as marks
 use Rattle.tsdl_grammar.specs.declared.tree.Value.TheVariants as values
 use Rattle.tsdl_meaning.specs.declared.judge.block.Judging.{Judging}
@@ -43,15 +43,14 @@ in_value a w block items front behind at place stop one is ends s =
     stops_after front (attr_toks a ++ behind) opening (value_toks a.value ++ mark marks.Semicolon ∷ behind) at place stop parts (λ fits. omega (arith, is))
     (s (items, ends_more front (begun block items) opening ends) (mark marks.Semicolon ∷ behind))
 
--- what the judge of a value answers is an answer for the attribute of a block of this kind
-pub in_block : (r : Result (Unit {0}) Stop) (P : List Atom → Type 0) (a : Attribute) (w : List ℕ) (judging : Judging) (kind : BlockKind) (items : List Item) (at place : ℕ)
-    → one_word a.name ≡ Some w → place ≡ min (at + 2) most → judging.kind ≡ kind → ((front : List Atom) → AreNoted front judging.ledger.now → IsAttribute (word_of kind) w front → P front)
-    → IfErr r (StopsWhere P place (value_toks a.value)) → IfErr r (StopsWhere (IsBegun judging items) at (attr_toks a))
-in_block r P a w judging kind items at place one is same known =
-    err_from r (StopsWhere P place (value_toks a.value)) (StopsWhere (IsBegun judging items) at (attr_toks a))
+-- what the judge of a value answers is an answer for the attribute of a block
+pub in_block : (r : Result (Unit {0}) Stop) (a : Attribute) (w : List ℕ) (judging : Judging) (items : List Item) (at place : ℕ) → one_word a.name ≡ Some w → place ≡ min (at + 2) most
+    → IfErr r (StopsWhere (λ (front : List Atom). AreNoted front judging.ledger.now × IsAttribute (word_of judging.kind) w front) place (value_toks a.value)) → IfErr r (StopsWhere (IsBegun judging items) at (attr_toks a))
+in_block r a w judging items at place one is =
+    let opening = word w ∷ mark marks.Equals ∷ [] in
+    err_from r (StopsWhere (λ (front : List Atom). AreNoted front judging.ledger.now × IsAttribute (word_of judging.kind) w front) place (value_toks a.value)) (StopsWhere (IsBegun judging items) at (attr_toks a))
     (λ stop h front behind b.
-    in_value a w (word_of kind) items front behind at place stop one is (subst (λ (k : BlockKind). Ends front (begun (word_of k) items)) same b.ends)
-    (λ named after. h (front ++ (word w ∷ mark marks.Equals ∷ [])) after (known (front ++ (word w ∷ mark marks.Equals ∷ [])) (noted_more front (word w ∷ mark marks.Equals ∷ []) judging.ledger.now b.noted) named)))
+    in_value a w (word_of judging.kind) items front behind at place stop one is b.ends (λ named after. h (front ++ opening) after (noted_more front opening judging.ledger.now b.noted, named)))
 
 -- ---- flaws of values
 

@@ -2,11 +2,10 @@
 #![tactic(auto, using(crate::proofs::JudgedParts::any_front))]
 
 ghost use Rattle.std.specs.Prelude.{List, ◌++◌, IfOk, IfErr, IsTrue, codes};
-ghost use Rattle.tsdl_meaning.specs.Words.{Atom, Item, attr_toks, value_toks, IsPartOfVersion, StopsAmong, StopsWhere, IsAttribute, AreNoted, AreNamed, IsBegun, AddsAttribute, is_fit, asked_of, fits, of_trace, of_stream, of_event, of_clock, is_order, is_number};
+ghost use Rattle.tsdl_meaning.specs.Words.{Atom, Item, attr_toks, value_toks, IsPartOfVersion, StopsAmong, StopsWhere, IsAttribute, AreNoted, AreNamed, IsBegun, word_of, AddsAttribute, is_fit, asked_of, fits, is_order, is_number};
 ghost use Rattle.tsdl_grammar.specs.declared.token.Mark.TheVariants as marks;
 
 use crate::judge::block::{BlockKind, Judging};
-use crate::judge::ledger::Ledger;
 use crate::judge::names::Names;
 use crate::judge::value::{
     judge_flag, judge_label, judge_natural, judge_text, judge_uuid, judge_whole, order_remedy,
@@ -42,27 +41,47 @@ fn judge_value(judging: &Judging, attribute: &Attribute, at: usize) -> Result<()
         return Ok(());
     };
     let behind = at.saturating_add(2);
-    let word = word.as_str();
-    let value = &attribute.value;
-    match judging.kind {
-        BlockKind::Trace => judge_trace(judging.alloc, word, value, behind),
-        BlockKind::Stream => judge_stream(judging.ledger, word, value, behind),
-        BlockKind::Event => judge_event(word, value, behind),
-        BlockKind::Clock => judge_clock(judging.ledger, word, value, behind),
-    }
+    judge_named(judging, word.as_str(), &attribute.value, behind)
 }
 
-/// Judges the value of an attribute of a trace.
-fn judge_trace(alloc: Global, word: &str, value: &Value, at: usize) -> Result<(), Stop>
-    ensures fit { IfOk result (λ _. IsTrue (fits of_trace word.now value.now)) }
-    ensures fault { IfErr result (StopsWhere (IsAttribute (codes "trace") word.now) at (value_toks value.now)) }
+/// Judges what the attribute of this name has.
+fn judge_named(judging: &Judging, word: &str, value: &Value, at: usize) -> Result<(), Stop>
+    ensures fit { IfOk result (λ _. IsTrue (fits (asked_of judging.now.kind judging.now.ledger.now) word.now value.now)) }
+    ensures fault { IfErr result (StopsWhere (λ front. AreNoted front judging.now.ledger.now × IsAttribute (word_of judging.now.kind) word.now front) at (value_toks value.now)) }
 {
-    match word {
-        "byte_order" => judge_order(alloc, value, at),
-        "major" => judge_version(alloc, "major", value, at, 1),
-        "minor" => judge_version(alloc, "minor", value, at, 8),
-        "uuid" => judge_uuid(value, at),
-        _ => Ok(()),
+    match judging.kind {
+        BlockKind::Trace => match word {
+            "byte_order" => judge_order(judging.alloc, value, at),
+            "major" => judge_version(judging.alloc, "major", value, at, 1),
+            "minor" => judge_version(judging.alloc, "minor", value, at, 8),
+            "uuid" => judge_uuid(value, at),
+            _ => Ok(()),
+        },
+        BlockKind::Stream => {
+            if word == "id" && judging.ledger.has_stream(judge_natural(value, at)?) {
+                return Err(Stop::at(at, value, Flaw::Duplicate));
+            }
+            Ok(())
+        }
+        BlockKind::Event => match word {
+            "name" => judge_label(value, at).map(|_| ()),
+            "id" | "stream_id" | "loglevel" => judge_natural(value, at).map(|_| ()),
+            _ => Ok(()),
+        },
+        BlockKind::Clock => match word {
+            "name" => {
+                if judging.ledger.has_clock(judge_label(value, at)?) {
+                    return Err(Stop::at(at, value, Flaw::Duplicate));
+                }
+                Ok(())
+            }
+            "uuid" => judge_uuid(value, at),
+            "description" => judge_text(value, at),
+            "freq" | "precision" | "offset" => judge_natural(value, at).map(|_| ()),
+            "offset_s" => judge_whole(value, at),
+            "absolute" => judge_flag(value, at),
+            _ => Ok(()),
+        },
     }
 }
 
@@ -94,48 +113,4 @@ fn judge_version(
     }
     let part = String::from_str(alloc, part)?;
     Err(Stop::at(at, value, Flaw::Unsupported(part, Remedy::Nothing)))
-}
-
-/// Judges the value of an attribute of a stream.
-fn judge_stream(ledger: &Ledger, word: &str, value: &Value, at: usize) -> Result<(), Stop>
-    ensures fit { IfOk result (λ _. IsTrue (fits (of_stream ledger.now) word.now value.now)) }
-    ensures fault { IfErr result (StopsWhere (λ front. AreNoted front ledger.now × IsAttribute (codes "stream") word.now front) at (value_toks value.now)) }
-{
-    if word == "id" && ledger.has_stream(judge_natural(value, at)?) {
-        return Err(Stop::at(at, value, Flaw::Duplicate));
-    }
-    Ok(())
-}
-
-/// Judges the value of an attribute of an event.
-fn judge_event(word: &str, value: &Value, at: usize) -> Result<(), Stop>
-    ensures fit { IfOk result (λ _. IsTrue (fits of_event word.now value.now)) }
-    ensures fault { IfErr result (StopsAmong at (value_toks value.now)) }
-{
-    match word {
-        "name" => judge_label(value, at).map(|_| ()),
-        "id" | "stream_id" | "loglevel" => judge_natural(value, at).map(|_| ()),
-        _ => Ok(()),
-    }
-}
-
-/// Judges the value of an attribute of a clock.
-fn judge_clock(ledger: &Ledger, word: &str, value: &Value, at: usize) -> Result<(), Stop>
-    ensures fit { IfOk result (λ _. IsTrue (fits (of_clock ledger.now) word.now value.now)) }
-    ensures fault { IfErr result (StopsWhere (λ front. AreNoted front ledger.now × IsAttribute (codes "clock") word.now front) at (value_toks value.now)) }
-{
-    match word {
-        "name" => {
-            if ledger.has_clock(judge_label(value, at)?) {
-                return Err(Stop::at(at, value, Flaw::Duplicate));
-            }
-            Ok(())
-        }
-        "uuid" => judge_uuid(value, at),
-        "description" => judge_text(value, at),
-        "freq" | "precision" | "offset" => judge_natural(value, at).map(|_| ()),
-        "offset_s" => judge_whole(value, at),
-        "absolute" => judge_flag(value, at),
-        _ => Ok(()),
-    }
 }

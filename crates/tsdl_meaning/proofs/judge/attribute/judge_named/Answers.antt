@@ -1,0 +1,34 @@
+use Rattle.std.proofs.Common.{ℕ, List, sym, ap, ◌∙◌, subst, codes}
+use Rattle.tsdl_meaning.proofs.TextWords.{BlockKind, IsAttribute, bytes_eq-Decides, of_clock, of_event, passes, word_of}
+use Rattle.tsdl_meaning.proofs.BlockAttributes.{clock_twice, stream_twice}
+use Rattle.tsdl_meaning.proofs.WordTables.{absent}
+use Rattle.tsdl_meaning.proofs.judge.attribute.judge_named.Goals as goal
+
+pub returns-then-has_stream-clause-fault : goal.returns-then-has_stream-clause-fault
+returns-then-has_stream-clause-fault c = λ front behind p.
+    let ok = c.in_ok-judge_natural-in-Stream in
+    let stream = subst (λ (kind : BlockKind). IsAttribute (word_of kind) c.args.word.now front) c.in-Stream.is p.1 in
+    c.at.ensures front behind
+    (stream_twice c.args.value.now ok.field-0 front ok.ensures.value (c.has_stream.ensures.noted front p.0 c.if-has_stream.true)
+    (subst (λ (w : List ℕ). IsAttribute (codes "stream") w front) ((bytes_eq-Decides c.args.word.now (codes "id")).0 (sym c.eq.ensures ∙ c.if-eq.true)) stream))
+
+pub returns-then-has_clock-clause-fault : goal.returns-then-has_clock-clause-fault
+returns-then-has_clock-clause-fault c = λ front behind p.
+    let ok = c.in_ok-judge_label-in-name-word in
+    let clock = subst (λ (kind : BlockKind). IsAttribute (word_of kind) c.args.word.now front) c.in-Clock.is p.1 in
+    c.at-then-has_clock.ensures front behind
+    (clock_twice c.args.value.now ok.field-0.now front ok.ensures.value (c.has_clock.ensures.noted front p.0 c.if-has_clock.true)
+    (subst (λ (w : List ℕ). IsAttribute (codes "clock") w front) c.in-name-word.is clock))
+
+pub returns-in_default-word-clause-fit : goal.returns-in_default-word-clause-fit
+returns-in_default-word-clause-fit c =
+    let n = c.in_default-word in
+    rw c.in-Event.is (ap (λ o. passes o c.args.value.now) (absent of_event c.args.word.now (n.not-name, (n.not-id, (n.not-stream_id, (n.not-loglevel, tt))))))
+
+pub returns-in_default-word-2-clause-fit : goal.returns-in_default-word-2-clause-fit
+returns-in_default-word-2-clause-fit c =
+    let n = c.in_default-word-2 in
+    rw c.in-Clock.is
+    (ap (λ o. passes o c.args.value.now)
+    (absent (of_clock c.args.judging.now.ledger.now) c.args.word.now
+    (n.not-name, (n.not-uuid, (n.not-description, (n.not-freq, (n.not-precision, (n.not-offset, (n.not-offset_s, (n.not-absolute, tt))))))))))
