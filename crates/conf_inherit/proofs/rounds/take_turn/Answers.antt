@@ -1,7 +1,8 @@
 use Rattle.std.proofs.Common.{◌≡◌, Some, true, sym, ap, ◌∙◌, subst, string_bytes}
 use Rattle.serde_json.specs.{Find.get_member, View.{view, members_view}}
 use Rattle.conf_inherit.specs.{AliasOutcomes.outcomes_of, Named.has, Rounds.Outcomes, Spent.TurnsLeave}
-use Rattle.conf_inherit.proofs.{SpentLemmas.{turn_leaves, spent_leaves}, rounds.take_turn.Goals.{then-has, else-has}}
+use Rattle.conf_inherit.proofs.SpentLemmas.{turn_leaves, spent_leaves}
+use Rattle.conf_inherit.proofs.rounds.take_turn.Goals.{then-has, else-has}
 use Rattle.conf_inherit.proofs.rounds.take_turn.Goals as goal
 
 pub returns-clause-left : goal.returns-clause-left

@@ -1,7 +1,8 @@
 use Rattle.std.proofs.Common.{◌≡◌, true, true≢false, string_bytes, ap, sym, ◌∙◌, subst}
 use Rattle.serde_json.specs.{Data.Members, View.{view, members_view}}
 use Rattle.conf_inherit.specs.{declared.nesting.TheConstants.ALIAS_LEVELS, Nesting.members_nest, Rounds.Outcomes}
-use Rattle.conf_inherit.proofs.{SizeLemmas.nest_put, outcomes.AliasOutcomes.resolve.Goals.{then-self, else-self}}
+use Rattle.conf_inherit.proofs.SizeLemmas.{nest_put}
+use Rattle.conf_inherit.proofs.outcomes.AliasOutcomes.resolve.Goals.{then-self, else-self}
 use Rattle.conf_inherit.proofs.outcomes.AliasOutcomes.resolve.Goals as goal
 
 pub returns : goal.returns
