@@ -23,6 +23,15 @@ def renamed(line, name, new_name):
     return re.sub(rf"\bfn {name}\b", f"fn {new_name}", line)
 
 
+def with_own_goals(text, crate, path, copy):
+    """The proof of a function (by its path) as that of its copy: where it names its own goals, alone or in a group that is imported, it names the copy's."""
+    begins = f"Rattle.{crate}.proofs."
+    own, other = (f"{it.replace('::', '.')}." for it in (path, copy))
+    grouped = re.compile(rf"(?m)^use {re.escape(begins)}\{{.*")
+    text = text.replace(begins + own, begins + other)
+    return grouped.sub(lambda line: re.sub(rf"(?<=[{{ ]){re.escape(own)}", other, line[0]), text)
+
+
 class Layout:
     """The sources of a crate with copies behind each function that an edit touches. The edits then speak of their copies."""
 
@@ -94,12 +103,11 @@ class Layout:
             own, other = (proof_of(it, f"{folder}/proofs") for it in (path, copy))
             if not os.path.isdir(own):
                 continue
-            names = [f"Rattle.{crate}.proofs.{it.replace('::', '.')}." for it in (path, copy)]
             os.makedirs(other)
             for name in (it for it in os.listdir(own) if os.path.isfile(f"{own}/{it}")):
                 with open(f"{own}/{name}", encoding="utf-8") as it:
                     text = it.read()
                 with open(f"{other}/{name}", "w", encoding="utf-8") as it:
-                    it.write(text.replace(*names))
+                    it.write(with_own_goals(text, crate, path, copy))
         for function in (it for found in self.taken.values() for it in found):
             leave_open(function, crate, f"{folder}/proofs")
