@@ -19,11 +19,15 @@ stream_with _ _ _ _ _ _ _ = None
 abbrev pub clock_of : Members → Option (List ℕ)
 clock_of ms = word (codes "$default-clock-type-name") ms
 
+-- what the features of this name are
+abbrev pub feature_group : List ℕ → Members → Members
+feature_group name ms = properties name (properties (codes "$features") ms)
+
 -- `levels` are the log level aliases of the trace type
 unfoldable pub stream_type : Members → List ℕ → Members → Option StreamType
 stream_type levels name ms =
-    stream_with name (clock_of ms) (context (clock_of ms) (properties (codes "packet") (properties (codes "$features") ms))) (extra_members (codes "packet-context-field-type-extra-members") ms)
-    (event_header (clock_of ms) (properties (codes "event-record") (properties (codes "$features") ms))) (structure (codes "event-record-common-context-field-type") ms) (event_types levels ms)
+    stream_with name (clock_of ms) (context (clock_of ms) (feature_group (codes "packet") ms)) (extra_members (codes "packet-context-field-type-extra-members") ms)
+    (event_header (clock_of ms) (feature_group (codes "event-record") ms)) (structure (codes "event-record-common-context-field-type") ms) (event_types levels ms)
 
 unfoldable pub stream_types : Members → Option (List StreamType)
 stream_types ms = said_behind (stream_type (properties (codes "$log-level-aliases") ms)) [] (properties (codes "data-stream-types") ms)

@@ -1,14 +1,16 @@
 //! Data stream types (barectf 3.1, "Data stream type object").
-ghost use Rattle.std.specs.Prelude.{◌≡◌, Some, IsSome, IfOk};
+ghost use Rattle.std.specs.Prelude.{◌≡◌, Some, IsSome, IfOk, codes};
 ghost use Rattle.serde_json.specs.View.{members_view};
-ghost use Rattle.conf_draft.specs.Streams.{stream_types as stream_types_in, stream_type as stream_type_of};
+ghost use Rattle.conf_draft.specs.Features.{context as context_in, event_header as event_header_in};
+ghost use Rattle.conf_draft.specs.Streams.{feature_group, stream_types as stream_types_in, stream_type as stream_type_of};
+ghost use Rattle.conf_draft.specs.Structures.{extra_members, structure as structure_in};
 
 use crate::event_type::event_types;
 use crate::features::{context, event_header};
 use crate::lookup::{object_or, text};
 use crate::members::listed;
 use crate::structure::{made, structure};
-use ctf_types::{ListOf, StreamType, Text};
+use ctf_types::{ContextFeatures, EventFeatures, ListOf, StreamType, StructType, Text};
 use serde_json::{Map, Value};
 use std::alloc::{AllocError, Global};
 
@@ -32,7 +34,7 @@ pub(crate) fn stream_types(
     Ok(streams)
 }
 
-#[tactic(auto, unfolding(crate::specs::Streams::stream_type, crate::specs::Structures::extra_members))]
+#[tactic(auto, unfolding(crate::specs::Streams::stream_type))]
 fn stream_type(
     alloc: Global,
     name: &str,
@@ -42,17 +44,11 @@ fn stream_type(
     requires { IsSome (stream_type_of (members_view levels.now.entries) name.now (members_view members.now.entries)) }
     ensures { IfOk result (λ s. stream_type_of (members_view levels.now.entries) name.now (members_view members.now.entries) ≡ Some s) }
 {
-    let name = Text::from_str(alloc, name)?;
     let default_clock = text(alloc, members, "$default-clock-type-name")?;
-    let empty = Map::new(alloc);
-    let features = object_or(members, "$features", &empty);
-    let context = context(alloc, object_or(features, "packet", &empty), &default_clock)?;
-    let event_record = object_or(features, "event-record", &empty);
-    let event_header = event_header(alloc, event_record, &default_clock)?;
-    let extras = listed(alloc, members, "packet-context-field-type-extra-members")?;
-    let extras = made(extras, 1);
-    let common = structure(alloc, members, "event-record-common-context-field-type")?;
+    let (context, event_header) = features(alloc, members, &default_clock)?;
+    let (extras, common) = structures(alloc, members)?;
     let events = event_types(alloc, members, levels)?;
+    let name = Text::from_str(alloc, name)?;
     Ok(StreamType {
         name,
         default_clock,
@@ -62,4 +58,40 @@ fn stream_type(
         common,
         events,
     })
+}
+
+/// The fields that the tracer fills itself, of a packet's context and of an event record's header.
+fn features(
+    alloc: Global,
+    members: &Map<String, Value>,
+    clock: &Option<Text>,
+) -> Result<(ContextFeatures, EventFeatures), AllocError>
+    requires context { IsSome (context_in clock.now (feature_group (codes "packet") (members_view members.now.entries))) }
+    requires header { IsSome (event_header_in clock.now (feature_group (codes "event-record") (members_view members.now.entries))) }
+    ensures context { IfOk result (λ f. context_in clock.now (feature_group (codes "packet") (members_view members.now.entries)) ≡ Some f.0) }
+    ensures header { IfOk result (λ f. event_header_in clock.now (feature_group (codes "event-record") (members_view members.now.entries)) ≡ Some f.1) }
+{
+    let empty = Map::new(alloc);
+    let features = object_or(members, "$features", &empty);
+    let context = context(alloc, object_or(features, "packet", &empty), clock)?;
+    let event_record = object_or(features, "event-record", &empty);
+    let event_header = event_header(alloc, event_record, clock)?;
+    Ok((context, event_header))
+}
+
+/// The extra members of a packet's context, and the common context of the event records.
+#[tactic(auto, unfolding(crate::specs::Structures::extra_members))]
+fn structures(
+    alloc: Global,
+    members: &Map<String, Value>,
+) -> Result<(StructType, StructType), AllocError>
+    requires extras { IsSome (extra_members (codes "packet-context-field-type-extra-members") (members_view members.now.entries)) }
+    requires common { IsSome (structure_in (codes "event-record-common-context-field-type") (members_view members.now.entries)) }
+    ensures extras { IfOk result (λ t. extra_members (codes "packet-context-field-type-extra-members") (members_view members.now.entries) ≡ Some t.0) }
+    ensures common { IfOk result (λ t. structure_in (codes "event-record-common-context-field-type") (members_view members.now.entries) ≡ Some t.1) }
+{
+    let extras = listed(alloc, members, "packet-context-field-type-extra-members")?;
+    let extras = made(extras, 1);
+    let common = structure(alloc, members, "event-record-common-context-field-type")?;
+    Ok((extras, common))
 }
