@@ -1,60 +1,21 @@
 -- What a judge knows around a value is what the value stands in.
 use Rattle.std.proofs.Common.{◌≡◌, ◌⊎◌, ◌+◌, ◌<◌, ℕ, zero, suc, Some, inl, inr, sym, ap, subst, ◌∙◌, arith, ◌↔◌, ◌||◌, Bool, true, false, List, [], ◌∷◌, Contains, Option, is_some, refl, codes, unwrap_or, option_map, option_and_then, cond}
-use Rattle.conf_laws.proofs.Words.{Around, member_of, item_of, levels_around, SaysDefault, HasDefault, IsBehindDefault, enumeration_around, IsDynamic, TakesName, IsBeside, IsTaken, Place, class_of, is_dynamic_array, Known, nothing, inside, behind, with_taken, is_true, says_default, class_of_member, is_dynamic, take, take_each, take_all, names_beside, with_names, is_taken, all_numbers, numbers_in, optional, HasMember, get_member-put, get_member-put_other, Data, Items, no_items, item, null, boolean, object, Members, no_members, member, items_len, get_item, get_member, as_object, cases_lt, false≢true, or_cases, or_left, or_right, option_map_or, bytes_eq, bytes_eq-Decides, own_names, length_name}
+use Rattle.conf_laws.proofs.Words.{Around, member_of, item_of, levels_around, SaysDefault, HasDefault, IsBehindDefault, enumeration_around, IsDynamic, TakesName, IsBeside, IsTaken, Place, class_of, is_dynamic_array, Known, nothing, inside, behind, with_taken, is_true, says_default, class_of_member, is_dynamic, take, take_each, take_all, names_beside, with_names, is_taken, all_numbers, numbers_in, optional, HasMember, get_member-put, get_member-put_other, Data, Items, item, null, boolean, object, Members, no_members, member, get_item, get_member, as_object, cases_lt, false≢true, or_cases, or_left, or_right, option_map_or, bytes_eq, bytes_eq-Decides, own_names, length_name}
 use Rattle.conf_laws.proofs.Words.places
-use Rattle.conf_laws.proofs.Readings.{by_test}
+use Rattle.conf_laws.proofs.Readings.{by_test, some_same}
 
--- all items are those before, the nearest first, and then the rest
-pub data ItemParts (all : Items) : Items → Items → Type 0 where
-  at_the_first : ItemParts all no_items all
-  behind_item : (before : Items) (d : Data) (rest : Items) → ItemParts all before (item d rest) → ItemParts all (item d before) rest
+-- these are the items from place i on
+abbrev pub IsFrom : Items → ℕ → Items → Type 0
+IsFrom all i rest = (j : ℕ) → get_item (j + i) all ≡ get_item j rest
 
-abbrev pub HasItem : Data → Items → Type 0
-HasItem d no_items = ⊥
-HasItem d (item e ds) = (d ≡ e) ⊎ HasItem d ds
+pub from_start : (all : Items) → IsFrom all 0 all
+from_start all = λ j. ap (λ n. get_item n all) (omega arith)
 
--- an item of the rest is found behind those before
-item_at : (all before rest : Items) → ItemParts all before rest → (j : ℕ) → get_item (j + items_len before) all ≡ get_item j rest
-item_at all before rest ItemParts.at_the_first j = ap (λ i. get_item i all) (omega arith)
-item_at all before rest (ItemParts.behind_item b d r parts) j =
-    let same : j + suc (items_len b) ≡ suc j + items_len b = omega arith in
-    ap (λ i. get_item i all) same ∙ item_at all b (item d r) parts (suc j)
+pub from_next : (all : Items) (i : ℕ) (d : Data) (rest : Items) → IsFrom all i (item d rest) → IsFrom all (suc i) rest
+from_next all i d rest from = λ j. let same : j + suc i ≡ suc j + i = omega arith in ap (λ n. get_item n all) same ∙ from (suc j)
 
-pub item_found : (all before rest : Items) (d : Data) → ItemParts all before (item d rest) → get_item (items_len before) all ≡ Some d
-item_found all before rest d parts = let same : items_len before ≡ 0 + items_len before = omega arith in ap (λ i. get_item i all) same ∙ item_at all before (item d rest) parts 0
-
--- what stands before has a smaller index
-abbrev pub HasEarlier : Items → ℕ → Data → Type 0
-HasEarlier all i d = (j : ℕ) × (j < i) × (get_item j all ≡ Some d)
-
-pub before_found : (all before rest : Items) (d : Data) → ItemParts all before rest → HasItem d before → HasEarlier all (items_len before) d
-before_found all before rest d ItemParts.at_the_first has = absurd has
-before_found all before rest d (ItemParts.behind_item b e r parts) (inl same) = (items_len b, omega arith, item_found all b r e parts ∙ ap Some (sym same))
-before_found all before rest d (ItemParts.behind_item b e r parts) (inr has) = let earlier = before_found all b (item e r) d parts has in (earlier.0, omega (arith, earlier.1), earlier.2)
-
-pub found_before : (all before rest : Items) (d : Data) (j : ℕ) → ItemParts all before rest → j < items_len before → get_item j all ≡ Some d → HasItem d before
-found_before all before rest d j ItemParts.at_the_first less is = absurd (omega (arith, less))
-found_before all before rest d j (ItemParts.behind_item b e r parts) less is = elim (cases_lt j (items_len b)) [
-  | inl small ↦ inr (found_before all b (item e r) d j parts small is)
-  | inr large ↦ inl (last (omega (arith, less, large)))
-]
-  where
-    last : j ≡ items_len b → d ≡ e
-    last same = let found : get_item j all ≡ Some e = ap (λ i. get_item i all) same ∙ item_found all b r e parts in cc
-
--- an item of an index stands behind those with a smaller one
-abbrev pub Stands : Items → ℕ → Data → Type 0
-Stands all i d = (before : Items) × (rest : Items) × ItemParts all before (item d rest) × (items_len before ≡ i)
-
-stands_from : (all before rest : Items) (d : Data) (j : ℕ) → ItemParts all before rest → get_item j rest ≡ Some d → Stands all (j + items_len before) d
-stands_from all before no_items d j parts is = absurd cc
-stands_from all before (item e rest) d zero parts is = let same : e ≡ d = cc in (before, rest, subst (λ x. ItemParts all before (item x rest)) same parts, omega arith)
-stands_from all before (item e rest) d (suc j) parts is =
-    let later = stands_from all (item e before) rest d j (ItemParts.behind_item before e rest parts) is in
-    (later.0, later.1, later.2, later.3 ∙ omega arith)
-
-pub stands : (all : Items) (d : Data) (i : ℕ) → get_item i all ≡ Some d → Stands all i d
-stands all d i is = let there = stands_from all no_items all d i ItemParts.at_the_first is in (there.0, there.1, there.2, there.3 ∙ omega arith)
+pub item_here : (all : Items) (i : ℕ) (d : Data) (rest : Items) → IsFrom all i (item d rest) → get_item i all ≡ Some d
+item_here all i d rest from = let same : i ≡ 0 + i = omega arith in ap (λ n. get_item n all) same ∙ from 0
 
 abbrev pub IsTrue : Bool → Type 0
 IsTrue b = b ≡ true
@@ -190,36 +151,36 @@ entry_taken (object ms) taken name = let all = all_taken ms taken name in (λ t.
     those (ns, k, d, is, has, named) = let same : ns ≡ ms = cc in (k, d, subst (HasMember k d) same has, named)
 entry_taken _ taken name = (λ t. inr t, λ p. elim p [ inl (ms, k, d, is, has, named) ↦ absurd cc | inr u ↦ u ])
 
--- an entry before takes the name
-abbrev IsTakenIn : Items → List ℕ → Type 0
-IsTakenIn before name = (entry : Data) × HasItem entry before × TakesName entry name
+-- an entry before place i takes the name
+abbrev IsTakenBefore : Items → ℕ → List ℕ → Type 0
+IsTakenBefore all i name = (j : ℕ) × (entry : Data) × (j < i) × (get_item j all ≡ Some entry) × TakesName entry name
 
--- the names that are taken at an item of a list at this place, behind these
-abbrev pub Takes : Members → Place → Items → Type 0
-Takes taken place before = (name : List ℕ) → IsTrue (is_taken taken name) ↔ (IsTakenIn before name ⊎ IsBeside place name)
+-- the names that are taken at place i of a list
+abbrev pub Takes : Members → Place → Items → ℕ → Type 0
+Takes taken place all i = (name : List ℕ) → IsTrue (is_taken taken name) ↔ (IsTakenBefore all i name ⊎ IsBeside place name)
 
-pub takes_beside : (place : Place) → Takes (names_beside place) place no_items
+pub takes_beside : (place : Place) (all : Items) → Takes (names_beside place) place all 0
 unfolding names_beside
-takes_beside places.ExtraMembers = λ name. let each = each_taken own_names no_members name in
-    (λ t. elim (each.0 t) [ inl c ↦ inr c | inr none ↦ absurd (false≢true none) ], λ p. elim p [ inl (entry, has, named) ↦ absurd has | inr c ↦ each.1 (inl c) ])
-takes_beside _ = λ name. (λ t. absurd (false≢true t), λ p. elim p [ inl (entry, has, named) ↦ absurd has | inr none ↦ absurd none ])
+takes_beside places.ExtraMembers all = λ name. let each = each_taken own_names no_members name in
+    (λ t. elim (each.0 t) [ inl c ↦ inr c | inr none ↦ absurd (false≢true none) ], λ p. elim p [ inl (j, entry, less, is, named) ↦ absurd (omega (arith, less)) | inr c ↦ each.1 (inl c) ])
+takes_beside _ all = λ name. (λ t. absurd (false≢true t), λ p. elim p [ inl (j, entry, less, is, named) ↦ absurd (omega (arith, less)) | inr none ↦ absurd none ])
 
-pub takes_further : (taken : Members) (place : Place) (before : Items) (d : Data) → Takes taken place before → Takes (with_names d taken) place (item d before)
-takes_further taken place before d h = λ name. joined (entry_taken d taken name) (h name)
-    (λ p. elim p [ inl takes ↦ (d, inl refl, takes) | inr (entry, has, named) ↦ (entry, inr has, named) ]) (back name)
+pub takes_further : (taken : Members) (place : Place) (all : Items) (i : ℕ) (d : Data) → get_item i all ≡ Some d → Takes taken place all i → Takes (with_names d taken) place all (suc i)
+takes_further taken place all i d is h = λ name. joined (entry_taken d taken name) (h name)
+    (λ p. elim p [ inl takes ↦ (i, d, omega arith, is, takes) | inr (j, entry, less, there, named) ↦ (j, entry, omega (arith, less), there, named) ]) (back name)
   where
-    back : (name : List ℕ) → IsTakenIn (item d before) name → TakesName d name ⊎ IsTakenIn before name
-    back name (entry, inl same, named) = inl (subst (λ e. TakesName e name) same named)
-    back name (entry, inr has, named) = inr (entry, has, named)
+    back : (name : List ℕ) → IsTakenBefore all (suc i) name → TakesName d name ⊎ IsTakenBefore all i name
+    back name (j, entry, less, there, named) = elim (cases_lt j i) [
+      | inl small ↦ inr (j, entry, small, there, named)
+      | inr large ↦
+          let same : j ≡ i = omega (arith, less, large) in inl (subst (λ e. TakesName e name) (some_same (get_item i all) entry d (subst (λ n. get_item n all ≡ Some entry) same there) is) named)
+    ]
 
 -- what is taken at an item is what the items before it in its list take
-pub item_agrees : (k : Known) (around : Around) (taken : Members) (place : Place) (all before rest : Items) → Agrees k around → Takes taken place before → ItemParts all before rest → Agrees (with_taken taken k) (item_of place all (items_len before) ∷ around)
-item_agrees k around taken place all before rest h takes parts = record { levels = h.levels; second = h.second; numbers = h.numbers; taken = λ name. (λ t. there name ((takes name).0 t), λ p. (takes name).1 (back name p)) }
-  where
-    there : (name : List ℕ) → IsTakenIn before name ⊎ IsBeside place name → IsTaken (item_of place all (items_len before) ∷ around) name
-    there name (inr beside) = inl beside
-    there name (inl (entry, has, named)) = let earlier = before_found all before rest entry parts has in inr (earlier.0, entry, earlier.1, earlier.2, named)
-
-    back : (name : List ℕ) → IsTaken (item_of place all (items_len before) ∷ around) name → IsTakenIn before name ⊎ IsBeside place name
-    back name (inl beside) = inr beside
-    back name (inr (j, entry, less, is, named)) = inl (entry, found_before all before rest entry j parts less is, named)
+pub item_agrees : (k : Known) (around : Around) (taken : Members) (place : Place) (all : Items) (i : ℕ) → Agrees k around → Takes taken place all i → Agrees (with_taken taken k) (item_of place all i ∷ around)
+item_agrees k around taken place all i h takes = record {
+  levels = h.levels;
+  second = h.second;
+  numbers = h.numbers;
+  taken = λ name. (λ t. elim ((takes name).0 t) [ inl before ↦ inr before | inr beside ↦ inl beside ], λ p. (takes name).1 (elim p [ inl beside ↦ inr beside | inr before ↦ inl before ]));
+}

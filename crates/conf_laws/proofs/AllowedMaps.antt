@@ -1,12 +1,12 @@
 -- Names, texts, integers and enumerations that have no flaw and pass no limit are ones that the rules allow.
 -- Lists that have an item for each entry of a map, under its name, are in byte order, and no longer than the map: environments and clock
 -- types that have no flaw and pass no limit are ones that the rules allow.
-use Rattle.std.proofs.Common.{◌≡◌, ℕ, ◌||◌, ◌&&◌, true, List, length, Ok, arith, ◌==◌, ◌%◌, Bool, false, Some, None, nat_lt, sym, ap, ◌≢◌, ℤ, pos, suc, ◌<◌, ◌≤◌, [], ◌∷◌, ◌++◌, Less, Greater, nat_cmp, refl, subst, ◌∙◌, length-append, All, Option, map, nat_le, int_le, codes, option_and_then, unwrap_or, negsuc}
-use Rattle.conf_laws.proofs.Numbers.{whole_there, lowest_end, highest_end, ReadSo, read_so, some_size, natural_is_in}
-use Rattle.conf_laws.proofs.Properties.{AreGoodItems, entry_in, plain_rest, good_items, item_first, item_rest, AreGood, IsGoodAt, good_object, own_properties, fitting_parts, needed_at, names_of, sorted_names, names_counted, all_in, entry_object, property_at, MapPlace, is_map, is_plain, Property, leads, needed_by, OwnPlace, is_own, is_object}
-use Rattle.conf_laws.proofs.Readings.{under_no_test, proved_some, was_so, all_joined, mapped_some, same_natural, word_there, by_found}
-use Rattle.conf_laws.proofs.Sound.{needed_there, Leads}
-use Rattle.conf_laws.proofs.Words.{IsPair, entries_of, Place, At, WholeOrText, Whole, Text, Content, all_there, itself_of, form_of, Known, with_taken, key_fits, count_of, ranges_fit, key_of, key_by, names_beside, with_names, end_of, range_of, is_inside, inside_of, natural_in, numbers_of, numbers_in, all_numbers, item_content, leaf_of, whole_or_text, fits, here, AllAbove, IsInOrder, whole_of, given, OutOfRange, both_read, is_passed, name_of, is_reserved, plain_name_of, is_printable, Members, Data, number, array, Items, no_items, item, no_members, member, object, items_len, as_integer, as_array, get_member, optional, as_natural, string, members_len, as_object, nat_tests, and_parts, or_parts, leb-true, nat_list_cmp_total, tied_itself, T_from_true, All-from_recursion, All-weaker, same_Some, slice_cmp, le_z_yes, list_any, option_map_or, AllByRecursion, bytes_eq, length-map, map-append, whole, low, high, ranges_in, mappings_of as ranges_of, labels_in, enumeration, integer, size_of, object_at, properties, IsPlainUnsigned, LabelsInOrder, lowest, highest, IsRangeOf, IsEnumeration, is_name as is_identifier, unused_keywords, used_keywords, IsConfigName, IsPlainName, IsConfigText, EnumType, IntType, Mapping, clock_type, clocks_in, clock_types, entry_value, entries_in, environment, natural, word, InByteOrder, IsEnvironmentValue, IsClockType, ClockType, EnvironmentEntry, integer_made as made, integer_align as align_of, counted_ranges}
+use Rattle.std.proofs.Common.{◌≡◌, ℕ, ◌||◌, ◌&&◌, true, List, length, Ok, arith, ◌==◌, ◌%◌, Bool, Some, None, nat_lt, sym, ap, ◌≢◌, ℤ, pos, suc, ◌<◌, ◌≤◌, [], ◌∷◌, ◌++◌, Less, Greater, nat_cmp, refl, subst, ◌∙◌, length-append, All, Option, map, cond, lt-ltb, nat_le, int_le, codes, option_and_then, unwrap_or, negsuc}
+use Rattle.conf_laws.proofs.Numbers.{whole_there, lowest_end, highest_end, ReadSo, read_so, some_size, natural_is_in, IsAlignment, alignment_or, needed_natural}
+use Rattle.conf_laws.proofs.Properties.{IsWithin, AreWithin, object_within, entry_within, optional_within, all_within, fitting_parts, flaws_in, names_of, sorted_names, names_counted, MapPlace, is_map, Property, leads, needed_by, OwnPlace, is_own, is_object}
+use Rattle.conf_laws.proofs.Readings.{Says, proved_says, under_no_test, was_so, all_joined, same_natural, word_there, optional_found, by_found, by_test}
+use Rattle.conf_laws.proofs.Sound.{RowsSound, ContentSound, object_sound, content_sound, first_item, first_entry, held_at, needed_sound, optional_sound, rows_sound}
+use Rattle.conf_laws.proofs.Words.{IsPair, entries_of, Place, At, WholeOrText, Whole, Text, Content, member_flaws, item_flaws, inside, behind, itself_of, form_of, Known, with_taken, key_fits, count_of, ranges_fit, key_of, key_by, names_beside, with_names, end_of, range_of, is_inside, inside_of, natural_in, numbers_of, numbers_in, all_numbers, item_content, leaf_of, whole_or_text, fits, here, AllAbove, IsInOrder, whole_of, OutOfRange, both_read, is_passed, name_of, is_reserved, plain_name_of, is_printable, Members, Data, number, array, Items, no_items, item, no_members, member, object, items_len, as_integer, as_array, optional, as_natural, string, members_len, nat_tests, and_parts, or_parts, leb-true, nat_list_cmp_total, tied_itself, T_from_true, All-from_recursion, All-weaker, slice_cmp, le_z_yes, list_any, option_map_or, AllByRecursion, bytes_eq, length-map, map-append, whole, low, high, ranges_in, mappings_of as ranges_of, labels_in, enumeration, integer, size_of, object_at, properties, LabelsInOrder, lowest, highest, IsRangeOf, IsEnumeration, is_name as is_identifier, unused_keywords, used_keywords, IsConfigName, IsPlainName, IsConfigText, IntType, Mapping, clock_type, clocks_in, clock_types, entry_value, entries_in, environment, natural, word, InByteOrder, IsEnvironmentValue, IsClockType, ClockType, EnvironmentEntry, integer_made as made, integer_align as align_of, default_align, counted_ranges}
 use Rattle.conf_laws.proofs.Words.places
 
 pub config_name : (name : List ℕ) → name_of name ≡ Ok tt → IsConfigName name
@@ -34,18 +34,18 @@ pub record IsMade (size align : ℕ) (signed : Bool) (t : IntType) : Type 0 wher
   pub sign_is : t.signed ≡ signed
   pub no_clock : t.clock ≡ None
 
-pub integer_says : (signed : Bool) (ms : Members) (t : IntType) → integer signed ms ≡ Some t → IsMade (size_of ms) (align_of ms) signed t
-unfolding integer made
-integer_says signed ms t e =
-    let a = proved_some (nat_lt 0 (size_of ms)) _ t e in
-    let b = proved_some (nat_le (size_of ms) 64) _ t a.1 in
-    let c = proved_some (nat_lt 0 (align_of ms)) _ t b.1 in
-    let d = proved_some (4096 % align_of ms == 0) _ t c.1 in
-    let same = same_Some _ t d.1 in
-    record { size_is = ap (λ x. x.size) (sym same); align_is = ap (λ x. x.align) (sym same); sign_is = ap (λ x. x.signed) (sym same); no_clock = ap (λ x. x.clock) (sym same) }
+by_default : (size : ℕ) → IsAlignment (default_align size)
+by_default size = by_test (λ (b : Bool). IsAlignment (cond b 8 1)) (size % 8 == 0) (λ is. record { positive = refl; power = refl }) (λ is. record { positive = refl; power = refl })
 
-pub unsigned_says : (ms : Members) (t : IntType) → integer false ms ≡ Some t → IsPlainUnsigned t
-unsigned_says ms t e = let made = integer_says false ms t e in (made.sign_is, made.no_clock)
+pub integer_says : (k : Known) (place : Place) (signed : Bool) (ms : Members) → Property true place (codes "size") (Whole (pos 1) (pos 64)) → RowsSound k place ms → Says (integer signed ms) (IsMade (size_of ms) (align_of ms) signed)
+unfolding integer made size_of align_of
+integer_says k place signed ms size h =
+    let n = needed_natural k place (codes "size") 1 64 ms (leads size) (needed_by size) h (omega arith) in
+    let is = sym (ap (λ o. unwrap_or o 0) n.1) in
+    let align = alignment_or (codes "alignment") (default_align (size_of ms)) ms (by_default (size_of ms)) in
+    let P : IntType → Type 0 = IsMade (size_of ms) (align_of ms) signed in
+    proved_says P (nat_lt 0 (size_of ms)) _ (subst (λ x. nat_lt 0 x ≡ true) is (lt-ltb 0 n.0 (let a = leb-true 1 n.0 n.2 in omega arith)))
+    (λ _. proved_says P (nat_le (size_of ms) 64) _ (subst (λ x. nat_le x 64 ≡ true) is n.3) (λ _. proved_says P (nat_lt 0 (align_of ms)) _ align.positive (λ _. proved_says P (4096 % align_of ms == 0) _ align.power (λ _. (_, refl, record { size_is = refl; align_is = refl; sign_is = refl; no_clock = refl })))))
 
 -- ---- one range
 
@@ -83,26 +83,26 @@ pub record IsGoodMapping (k : Known) (m : Mapping) : Type 0 where
   pub inside : is_known k m.low m.high ≡ true
   pub text : IsConfigText m.label
 
-ranges_good : (k : Known) (label : List ℕ) (taken : Members) (i : ℕ) (ds : Items) → IsConfigText label → AreGoodItems k places.Ranges taken i ds → AllByRecursion (IsGoodMapping k) (ranges_in label ds)
+ranges_good : (k : Known) (label : List ℕ) (taken : Members) (i : ℕ) (ds : Items) → IsConfigText label → item_flaws k places.Ranges taken i ds ≡ [] → AllByRecursion (IsGoodMapping k) (ranges_in label ds)
 unfolding item_content itself_of form_of
-ranges_good k label taken i no_items text h = tt
-ranges_good k label taken i (item d ds) text h = (
-  record { inside = range_inside (with_taken taken k) d ((item_first k places.Ranges taken i d ds h).sound.itself); text = text },
-  ranges_good k label (with_names d taken) (suc i) ds text (item_rest k places.Ranges taken i d ds h),
-)
+ranges_good k label taken i no_items text f = tt
+ranges_good k label taken i (item d ds) text f =
+    let first = first_item k places.Ranges taken i d ds f in
+    (record { inside = range_inside (with_taken taken k) d (content_sound (with_taken taken k) (item_content places.Ranges) d first.0).itself; text = text }, ranges_good k label (with_names d taken) (suc i) ds text first.1)
 
 -- ---- the labels
 
-own_good : (k : Known) (label : List ℕ) (d : Data) → IsConfigText label → IsGoodAt k (At places.Ranges) d → AllByRecursion (IsGoodMapping k) (ranges_of label d)
-own_good k label (array ds) text h = ranges_good k label (names_beside places.Ranges) 0 ds text (good_items k places.Ranges ds h)
+own_good : (k : Known) (label : List ℕ) (d : Data) → IsConfigText label → ContentSound k (At places.Ranges) d → AllByRecursion (IsGoodMapping k) (ranges_of label d)
+own_good k label (array ds) text h = ranges_good k label (names_beside places.Ranges) 0 ds text h.inner
 own_good k label _ text h = tt
 
-pub labels_good : (k : Known) (labels : Members) → AreGood k places.Mappings labels → AllByRecursion (IsGoodMapping k) (labels_in labels)
-unfolding key_of key_by key_fits entries_of
-labels_good k no_members h = tt
-labels_good k (member label d ms) h =
-    let entry = entry_in k places.Mappings label (At places.Ranges) d ms (is_map MapPlace.mappings) h in
-    all_joined (IsGoodMapping k) (ranges_of label d) (labels_in ms) (own_good k label d (config_text label (was_so _ entry.named) entry.short) entry.value) (labels_good k ms (plain_rest k places.Mappings label d ms (is_plain MapPlace.mappings) h))
+labels_good : (k : Known) (labels : Members) → member_flaws k places.Mappings labels ≡ [] → AreWithin places.Mappings labels → AllByRecursion (IsGoodMapping k) (labels_in labels)
+unfolding key_of key_by key_fits entries_of behind
+labels_good k no_members f h = tt
+labels_good k (member label d ms) f h =
+    let sound = first_entry k places.Mappings label (At places.Ranges) d ms (is_map MapPlace.mappings) f in
+    let within = entry_within MapPlace.mappings label d ms h in
+    all_joined (IsGoodMapping k) (ranges_of label d) (labels_in ms) (own_good k label d (config_text label (was_so _ sound.0.named) within.1) sound.0.value) (labels_good k ms sound.1 within.2)
 
 -- ---- how many there are
 
@@ -111,11 +111,11 @@ unfolding itself_of form_of
 some_here k label (array (item d ds)) e = omega arith
 some_here k label _ e = absurd cc
 
-pub some_range : (k : Known) (labels : Members) → itself_of k (At places.Mappings) (object labels) ≡ Ok tt → AreGood k places.Mappings labels → 0 < length (labels_in labels)
+some_range : (k : Known) (labels : Members) → itself_of k (At places.Mappings) (object labels) ≡ Ok tt → member_flaws k places.Mappings labels ≡ [] → 0 < length (labels_in labels)
 unfolding itself_of form_of
-some_range k no_members some h = absurd cc
-some_range k (member label d ms) some h =
-    let first = some_here k label d (entry_in k places.Mappings label (At places.Ranges) d ms (is_map MapPlace.mappings) h).value.sound.itself in
+some_range k no_members some f = absurd cc
+some_range k (member label d ms) some f =
+    let first = some_here k label d (first_entry k places.Mappings label (At places.Ranges) d ms (is_map MapPlace.mappings) f).0.value.itself in
     omega (arith, first, length-append (ranges_of label d) (labels_in ms))
 
 ranges_counted : (label : List ℕ) (ds : Items) → length (ranges_in label ds) ≡ items_len ds
@@ -175,32 +175,24 @@ record AreMappings (k : Known) (ms : List Mapping) : Type 0 where
   some : 0 < length ms
   few : length ms ≤ 1024
 
-mappings_good : (k : Known) (labels : Members) → IsGoodAt k (At places.Mappings) (object labels) → AreMappings k (labels_in labels)
-unfolding ranges_fit
-mappings_good k labels h =
-    let whole = good_object k places.Mappings labels h in
-    let good = own_properties k places.Mappings labels (is_own OwnPlace.mappings) whole in
-    let few = leb-true (counted_ranges labels) 1024 (fitting_parts places.Mappings (object labels) whole.fitting).2 in
+mappings_good : (k : Known) (labels : Members) → ContentSound k (At places.Mappings) (object labels) → IsWithin (At places.Mappings) (object labels) → AreMappings k (labels_in labels)
+unfolding ranges_fit inside
+mappings_good k labels h within =
+    let own = (is_own OwnPlace.mappings).own labels in
+    let flaws = (rows_sound k places.Mappings places.Mappings labels own (object_sound k places.Mappings labels h.inner)).flaws in
+    let all = object_within places.Mappings places.Mappings labels own within in
+    let few = leb-true (counted_ranges labels) 1024 (fitting_parts places.Mappings (object labels) within.fitting).2 in
     record {
-      each = All-from_recursion (IsGoodMapping k) (labels_in labels) (labels_good k labels good);
-      in_order = labels_in_order labels whole.in_order;
-      some = some_range k labels h.sound.itself good;
+      each = All-from_recursion (IsGoodMapping k) (labels_in labels) (labels_good k labels flaws all);
+      in_order = labels_in_order labels all.in_order;
+      some = some_range k labels h.itself flaws;
       few = omega (arith, few, labels_few labels);
     }
 
--- a needed property that is mappings
-abbrev pub HasMappings : Known → Members → Type 0
-HasMappings k ms = (labels : Members) × (object_at (codes "mappings") ms ≡ Some labels) × IsGoodAt k (At places.Mappings) (object labels)
-
-labels_there : (k : Known) (ms : Members) (d : Data) → get_member (codes "mappings") ms ≡ Some d → IsGoodAt k (At places.Mappings) d → HasMappings k ms
-unfolding object_at itself_of form_of
-labels_there k ms (object labels) is h = (labels, ap (λ o. option_and_then as_object (given o)) is, h)
-labels_there k ms _ is h = absurd (let e = h.sound.itself in cc)
-
-pub has_mappings : (k : Known) (place : Place) (ms : Members) → Property true place (codes "mappings") (At places.Mappings) → all_there place ms ≡ Ok tt → AreGood k place ms → HasMappings k ms
-has_mappings k place ms property there h =
-    let found = needed_there place (codes "mappings") ms (needed_by property) there in
-    labels_there k ms found.0 found.1 (needed_at k place (codes "mappings") (At places.Mappings) ms found.0 (leads property) (needed_by property) h found.1)
+some_object : (k : Known) (d : Data) → ContentSound k (At places.Mappings) d → (labels : Members) × (d ≡ object labels)
+unfolding itself_of form_of
+some_object k (object labels) h = (labels, refl)
+some_object k _ h = absurd (let e = h.itself in cc)
 
 -- ---- the numbers of the integer
 
@@ -211,10 +203,9 @@ numbers_said signed (Some n) size is some = ap (numbers_of signed) is
 abbrev AreNumbersOf : Known → IntType → Type 0
 AreNumbersOf k t = (k.numbers.low ≡ lowest t.signed t.size) × (k.numbers.high ≡ highest t.signed t.size)
 
-numbers_are : (k : Known) (signed : Bool) (ms : Members) (t : IntType) → k.numbers ≡ numbers_in signed ms → integer signed ms ≡ Some t → AreNumbersOf k t
+numbers_are : (k : Known) (signed : Bool) (ms : Members) (t : IntType) → k.numbers ≡ numbers_in signed ms → IsMade (size_of ms) (align_of ms) signed t → AreNumbersOf k t
 unfolding size_of numbers_in
-numbers_are k signed ms t known e =
-    let says = integer_says signed ms t e in
+numbers_are k signed ms t known says =
     let size : unwrap_or (natural_in (codes "size") ms) 0 ≡ t.size = ap (λ o. unwrap_or o 0) (sym (same_natural (codes "size") ms)) ∙ sym says.size_is in
     let said = known ∙ numbers_said signed (natural_in (codes "size") ms) t.size size t.not_empty in
     let ends = some_size signed t.size t.not_empty t.at_most_64 in
@@ -229,23 +220,28 @@ range_in k t m is h =
 
 -- ---- the whole
 
-enumeration_with : (k : Known) (signed : Bool) (ms : Members) (mappings : List Mapping) (t : IntType) → integer signed ms ≡ Some t → k.numbers ≡ numbers_in signed ms → AreMappings k mappings → IsEnumeration (record { int = t; mappings = mappings })
-enumeration_with k signed ms mappings t e known h = record {
-  no_clock = (integer_says signed ms t e).no_clock;
-  ranges = All-weaker (IsGoodMapping k) (IsRangeOf t) (λ m. range_in k t m (numbers_are k signed ms t known e)) mappings h.each;
+enumeration_with : (k : Known) (signed : Bool) (ms : Members) (mappings : List Mapping) (t : IntType) → IsMade (size_of ms) (align_of ms) signed t → k.numbers ≡ numbers_in signed ms → AreMappings k mappings → IsEnumeration (record { int = t; mappings = mappings })
+enumeration_with k signed ms mappings t made known h = record {
+  no_clock = made.no_clock;
+  ranges = All-weaker (IsGoodMapping k) (IsRangeOf t) (λ m. range_in k t m (numbers_are k signed ms t known made)) mappings h.each;
   labels = All-weaker (IsGoodMapping k) (λ m. IsConfigText m.label) (λ m g. g.text) mappings h.each;
   in_order = h.in_order;
   some = h.some;
   few = h.few;
 }
 
-pub enumeration_allowed : (k : Known) (signed : Bool) (ms : Members) (t : EnumType) → k.numbers ≡ numbers_in signed ms → HasMappings k ms → enumeration signed ms ≡ Some t → IsEnumeration t
-unfolding enumeration properties
-enumeration_allowed k signed ms t known h e =
-    let mappings = labels_in (properties (codes "mappings") ms) in
-    let read = mapped_some (λ x. record { int = x; mappings = mappings }) (integer signed ms) t e in
-    let good : AreMappings k mappings = subst (λ o. AreMappings k (labels_in (unwrap_or o no_members))) (sym h.1) (mappings_good k h.0 h.2) in
-    subst IsEnumeration read.2 (enumeration_with k signed ms mappings read.0 read.1 known good)
+pub enumeration_says : (k : Known) (place : Place) (signed : Bool) (ms : Members) → Property true place (codes "size") (Whole (pos 1) (pos 64)) → Property true place (codes "mappings") (At places.Mappings) → k.numbers ≡ numbers_in signed ms → RowsSound k place ms
+    → Says (enumeration signed ms) (λ t. AreWithin place ms → IsEnumeration t)
+unfolding enumeration properties object_at
+enumeration_says k place signed ms size mappings known h =
+    let int = integer_says k place signed ms size h in
+    let p = needed_sound k place (codes "mappings") (At places.Mappings) ms (leads mappings) (needed_by mappings) h in
+    let labels = some_object k p.value p.sound.value in
+    let found = optional_found (codes "mappings") ms (object labels.0) (p.found ∙ ap Some labels.1) refl in (
+      record { int = int.0; mappings = labels_in labels.0 },
+      rw (int.1, found) refl,
+      λ within. enumeration_with k signed ms (labels_in labels.0) int.0 int.2 known (mappings_good k labels.0 (subst (λ x. ContentSound k (At places.Mappings) x) labels.1 p.sound.value) (optional_within mappings ms (object labels.0) within found)),
+    )
 
 -- items that are good, in byte order of their names, and no more than `most`
 pub record AreAllowed {A : Type 0} (named : A → List ℕ) (good : A → Type 0) (most : ℕ) (xs : List A) : Type 0 where
@@ -283,10 +279,10 @@ map_allowed named good most ms xs order few h =
 abbrev entry_content : Content
 entry_content = WholeOrText (negsuc 9223372036854775807) (pos 9223372036854775807) 4096
 
-value_allowed : (k : Known) (d : Data) → IsGoodAt k entry_content d → IsEnvironmentValue (entry_value d)
+value_allowed : (k : Known) (d : Data) → ContentSound k entry_content d → IsWithin entry_content d → IsEnvironmentValue (entry_value d)
 unfolding itself_of leaf_of whole_or_text fits
-value_allowed k (string s) h = config_text s (was_so _ h.sound.itself) h.within.fitting
-value_allowed k _ h = tt
+value_allowed k (string s) h within = config_text s (was_so _ h.itself) within.fitting
+value_allowed k _ h within = tt
 
 abbrev entry_name : EnvironmentEntry → List ℕ
 entry_name e = e.name
@@ -294,61 +290,63 @@ entry_name e = e.name
 abbrev pub IsEntry : EnvironmentEntry → Type 0
 IsEntry e = IsPlainName e.name × IsEnvironmentValue e.value
 
-entries_under : (k : Known) (ms : Members) → AreGood k places.Environment ms → AreUnder entry_name IsEntry (names_of ms) (entries_in ms)
-unfolding key_of key_by entries_of
-entries_under k no_members h = none_under entry_name IsEntry
-entries_under k (member name d ms) h =
-    let entry = entry_in k places.Environment name entry_content d ms (is_map MapPlace.environment) h in
-    one_under entry_name IsEntry name (names_of ms) (record { name = name; value = entry_value d }) (entries_in ms) refl ((plain_name name entry.named), value_allowed k d entry.value)
-    (entries_under k ms (plain_rest k places.Environment name d ms (is_plain MapPlace.environment) h))
+entries_under : (k : Known) (ms : Members) → member_flaws k places.Environment ms ≡ [] → AreWithin places.Environment ms → AreUnder entry_name IsEntry (names_of ms) (entries_in ms)
+unfolding key_of key_by entries_of behind
+entries_under k no_members f h = none_under entry_name IsEntry
+entries_under k (member name d ms) f h =
+    let sound = first_entry k places.Environment name entry_content d ms (is_map MapPlace.environment) f in
+    let within = entry_within MapPlace.environment name d ms h in
+    one_under entry_name IsEntry name (names_of ms) (record { name = name; value = entry_value d }) (entries_in ms) refl (plain_name name sound.0.named, value_allowed k d sound.0.value within.0) (entries_under k ms sound.1 within.2)
 
 abbrev pub IsEnvironment : List EnvironmentEntry → Type 0
 IsEnvironment es = AreAllowed entry_name IsEntry 256 es
 
-pub environment_allowed : (k : Known) (place : Place) (ms : Members) → Leads place (codes "environment") (At places.Environment) → AreGood k place ms → IsEnvironment (environment ms)
+pub environment_allowed : (k : Known) (ms : Members) → member_flaws k places.Trace ms ≡ [] → AreWithin places.Trace ms → IsEnvironment (environment ms)
 unfolding environment entries_of
-environment_allowed k place ms leads h =
-    let all = all_in k place (codes "environment") places.Environment ms leads (is_own OwnPlace.environment) h in
-    map_allowed entry_name IsEntry 256 _ _ all.0.in_order all.1 (entries_under k _ all.0)
+environment_allowed k ms f h =
+    let all = all_within Property.environment OwnPlace.environment ms h in
+    map_allowed entry_name IsEntry 256 _ _ all.0.in_order all.1 (entries_under k _ (flaws_in k Property.environment OwnPlace.environment ms f) all.0)
 
 -- ---- one clock type
 
-description_allowed : (k : Known) (ms : Members) (s : List ℕ) → AreGood k places.ClockType ms → word (codes "description") ms ≡ Some s → IsConfigText s
+description_allowed : (k : Known) (ms : Members) (s : List ℕ) → member_flaws k places.ClockType ms ≡ [] → AreWithin places.ClockType ms → word (codes "description") ms ≡ Some s → IsConfigText s
 unfolding itself_of leaf_of fits word
-description_allowed k ms s h e =
-    let value = property_at k places.ClockType (codes "description") (Text 4096) ms (string s) (leads Property.description) h (word_there (optional (codes "description") ms) s e) in config_text s (was_so _ value.sound.itself) value.within.fitting
+description_allowed k ms s f h e =
+    let there = word_there (optional (codes "description") ms) s e in
+    config_text s (was_so _ (optional_sound k places.ClockType (codes "description") (Text 4096) ms (string s) (leads Property.description) f there).value.itself) (optional_within Property.description ms (string s) h there).fitting
 
-frequency_positive : (k : Known) (ms : Members) → AreGood k places.ClockType ms → 0 < unwrap_or (natural (codes "frequency") ms) 1000000000
+frequency_positive : (k : Known) (ms : Members) → member_flaws k places.ClockType ms ≡ [] → 0 < unwrap_or (natural (codes "frequency") ms) 1000000000
 unfolding itself_of leaf_of natural
-frequency_positive k ms h =
+frequency_positive k ms f =
     by_found (λ (o : Option Data). 0 < unwrap_or (option_and_then as_natural o) 1000000000) (optional (codes "frequency") ms)
     (λ e. omega arith) (λ d is. by_found (λ (o : Option ℕ). 0 < unwrap_or o 1000000000) (as_natural d) (λ e. omega arith) (λ n e.
-    let b = (natural_is_in 1 18446744073709551615 d n (omega arith) (property_at k places.ClockType (codes "frequency") (Whole (pos 1) (pos 18446744073709551615)) ms d (leads Property.frequency) h is).sound.itself e).0 in omega (arith, b)))
+    let b = (natural_is_in 1 18446744073709551615 d n (omega arith) (optional_sound k places.ClockType (codes "frequency") (Whole (pos 1) (pos 18446744073709551615)) ms d (leads Property.frequency) f is).value.itself e).0 in omega (arith, b)))
 
-clock_allowed : (k : Known) (name : List ℕ) (ms : Members) → IsPlainName name → AreGood k places.ClockType ms → IsClockType (clock_type name ms)
+clock_allowed : (k : Known) (name : List ℕ) (ms : Members) → IsPlainName name → member_flaws k places.ClockType ms ≡ [] → AreWithin places.ClockType ms → IsClockType (clock_type name ms)
 unfolding clock_type
-clock_allowed k name ms plain h = record { name = plain; description = λ text is. description_allowed k ms text h is; frequency = frequency_positive k ms h }
+clock_allowed k name ms plain f h = record { name = plain; description = λ text is. description_allowed k ms text f h is; frequency = frequency_positive k ms f }
 
 -- ---- all of them
 
 abbrev clock_name : ClockType → List ℕ
 clock_name c = c.name
 
-clocks_under : (k : Known) (ms : Members) → AreGood k places.ClockTypes ms → AreUnder clock_name IsClockType (names_of ms) (clocks_in ms)
-unfolding key_of key_by entries_of clock_type
-clocks_under k no_members h = none_under clock_name IsClockType
-clocks_under k (member name d ms) h =
-    let entry = entry_in k places.ClockTypes name (At places.ClockType) d ms (is_map MapPlace.clock_types) h in
-    let inner = entry_object k places.ClockType d ((is_object OwnPlace.clock_type).form k d) entry.value in
-    let one = clock_allowed k name inner.0 (plain_name name entry.named) (own_properties k places.ClockType inner.0 (is_own OwnPlace.clock_type) inner.2) in
-    subst (λ x. AreUnder clock_name IsClockType (name ∷ names_of ms) (clocks_in (member name x ms))) (sym inner.1)
-    (one_under clock_name IsClockType name (names_of ms) (clock_type name inner.0) (clocks_in ms) refl one (clocks_under k ms (plain_rest k places.ClockTypes name d ms (is_plain MapPlace.clock_types) h)))
+clocks_under : (k : Known) (ms : Members) → member_flaws k places.ClockTypes ms ≡ [] → AreWithin places.ClockTypes ms → AreUnder clock_name IsClockType (names_of ms) (clocks_in ms)
+unfolding key_of key_by entries_of clock_type behind inside
+clocks_under k no_members f h = none_under clock_name IsClockType
+clocks_under k (member name d ms) f h =
+    let sound = first_entry k places.ClockTypes name (At places.ClockType) d ms (is_map MapPlace.clock_types) f in
+    let within = entry_within MapPlace.clock_types name d ms h in
+    let inner = held_at k places.ClockType d (is_object OwnPlace.clock_type) sound.0.value in
+    let one = clock_allowed k name inner.ms (plain_name name sound.0.named) inner.rows.flaws (object_within places.ClockType places.ClockType inner.ms ((is_own OwnPlace.clock_type).own inner.ms) (subst (λ x. IsWithin (At places.ClockType) x) inner.is within.0)) in
+    subst (λ x. AreUnder clock_name IsClockType (name ∷ names_of ms) (clocks_in (member name x ms))) (sym inner.is)
+    (one_under clock_name IsClockType name (names_of ms) (clock_type name inner.ms) (clocks_in ms) refl one (clocks_under k ms sound.1 within.2))
 
 abbrev pub AreClocks : List ClockType → Type 0
 AreClocks cs = AreAllowed clock_name IsClockType 64 cs
 
-pub clocks_allowed : (k : Known) (place : Place) (ms : Members) → Leads place (codes "clock-types") (At places.ClockTypes) → AreGood k place ms → AreClocks (clock_types ms)
+pub clocks_allowed : (k : Known) (ms : Members) → member_flaws k places.TraceType ms ≡ [] → AreWithin places.TraceType ms → AreClocks (clock_types ms)
 unfolding clock_types entries_of
-clocks_allowed k place ms leads h =
-    let all = all_in k place (codes "clock-types") places.ClockTypes ms leads (is_own OwnPlace.clock_types) h in
-    map_allowed clock_name IsClockType 64 _ _ all.0.in_order all.1 (clocks_under k _ all.0)
+clocks_allowed k ms f h =
+    let all = all_within Property.clock_types OwnPlace.clock_types ms h in
+    map_allowed clock_name IsClockType 64 _ _ all.0.in_order all.1 (clocks_under k _ (flaws_in k Property.clock_types OwnPlace.clock_types ms f) all.0)

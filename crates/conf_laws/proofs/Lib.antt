@@ -3,16 +3,14 @@ pub mod Readings
 pub mod Sound
 pub mod Properties
 pub mod Numbers
+pub mod FieldTypes
 pub mod Structures
 pub mod Traces
 pub mod AllowedMaps
 pub mod AllowedTraces
-pub mod AllowedStructures
 pub mod TableFlawLaws
 pub mod Agreement
 pub mod ValueFlawLaws
-pub mod ExcludedValues
-pub mod ExcludedFlaws
 pub mod TableLimitLaws
 pub mod ExcludedLimits
 pub mod Worked

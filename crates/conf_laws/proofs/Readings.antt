@@ -1,19 +1,7 @@
 -- What small steps and readings say that went well; what is computed from the first property of a name; and what holds of a field type
 -- where it holds of its element.
-use Rattle.std.proofs.Common.{◌≡◌, ℕ, Bool, true, false, List, Option, Some, None, is_some, refl, ap, IsSome, [], ◌∷◌, ◌++◌, cond, Ok, Err, Ordering, Less, Equal, Greater, nat_cmp, is_eq, sym, subst, ◌∙◌, option_map, option_and_then, codes}
-use Rattle.conf_laws.proofs.Words.{is_null, only_if, times, elements, elements_in_array, natural_in, has_bits, element_has_bits, Flaw, given, optional, proved, as_natural, Data, string, array, object, Items, Members, null, no_members, member, get_member, as_array, as_object, as_str, false≢true, nat_list_cmp_total, tied_itself, is_eq-slice_cmp, same_Some, bytes_eq-Decides, slice_cmp, AllByRecursion, option_map_or, match_ordering, bytes_eq, field_type, element, natural}
-
-pub proved_some : {A : Type 0} (b : Bool) (f : b ≡ true → Option A) (x : A) → proved b f ≡ Some x → (h : b ≡ true) × (f h ≡ Some x)
-proved_some true f x e = (refl, e)
-proved_some false f x e = absurd cc
-
-pub mapped_some : {A B : Type 0} (f : A → B) (o : Option A) (y : B) → option_map f o ≡ Some y → (x : A) × (o ≡ Some x) × (f x ≡ y)
-mapped_some f None y e = absurd cc
-mapped_some f (Some x) y e = (x, refl, same_Some (f x) y e)
-
-pub then_some : {A B : Type 0} (f : A → Option B) (o : Option A) (y : B) → option_and_then f o ≡ Some y → (x : A) × (o ≡ Some x) × (f x ≡ Some y)
-then_some f None y e = absurd cc
-then_some f (Some x) y e = (x, refl, e)
+use Rattle.std.proofs.Common.{◌≡◌, ℕ, Bool, true, false, List, Option, Some, None, is_some, refl, ap, [], ◌∷◌, ◌++◌, cond, Ok, Err, Ordering, Less, Equal, Greater, nat_cmp, is_eq, sym, subst, ◌∙◌, option_map, option_and_then, codes}
+use Rattle.conf_laws.proofs.Words.{is_null, only_if, times, elements, elements_in_array, natural_in, has_bits, element_has_bits, Flaw, given, optional, proved, as_natural, Data, string, object, Members, null, no_members, member, get_member, as_object, as_str, false≢true, nat_list_cmp_total, tied_itself, is_eq-slice_cmp, same_Some, bytes_eq-Decides, slice_cmp, AllByRecursion, option_map_or, match_ordering, bytes_eq, field_type, element, natural}
 
 pub some_none : {A P : Type 0} (o : Option A) (x : A) → o ≡ Some x → o ≡ None → P
 some_none o x p q = absurd cc
@@ -25,6 +13,17 @@ pub some_there : {A : Type 0} (o : Option A) → is_some o ≡ true → (x : A) 
 some_there None e = absurd cc
 some_there (Some x) e = (x, refl)
 
+-- something is said, of which this holds
+abbrev pub Says : {A : Type 0} → Option A → (A → Type 0) → Type 0
+Says {A = A} o P = (x : A) × (o ≡ Some x) × P x
+
+pub proved_says : {A : Type 0} (P : A → Type 0) (b : Bool) (f : b ≡ true → Option A) → b ≡ true → ((h : b ≡ true) → Says (f h) P) → Says (proved b f) P
+proved_says P true f e says = says refl
+proved_says P false f e says = absurd cc
+
+pub mapped_says : {A B : Type 0} (P : A → Type 0) (Q : B → Type 0) (f : A → B) (o : Option A) → ((x : A) → P x → Q (f x)) → Says o P → Says (option_map f o) Q
+mapped_says P Q f o each (x, is, h) = (f x, ap (option_map f) is, each x h)
+
 pub by_test : (P : Bool → Type 0) (b : Bool) → (b ≡ true → P true) → (b ≡ false → P false) → P b
 by_test P true holds fails = holds refl
 by_test P false holds fails = fails refl
@@ -32,20 +31,6 @@ by_test P false holds fails = fails refl
 pub by_found : {A : Type 0} (P : Option A → Type 0) (o : Option A) → (o ≡ None → P None) → ((x : A) → o ≡ Some x → P (Some x)) → P o
 by_found P None without with = without refl
 by_found P (Some x) without with = with x refl
-
--- ---- the other way round
-
-pub proved_there : {A : Type 0} (b : Bool) (f : b ≡ true → Option A) → b ≡ true → ((h : b ≡ true) → IsSome (f h)) → IsSome (proved b f)
-proved_there true f e g = g refl
-proved_there false f e g = absurd cc
-
-pub mapped_there : {A B : Type 0} (f : A → B) (o : Option A) → IsSome o → IsSome (option_map f o)
-mapped_there f None h = absurd (false≢true h)
-mapped_there f (Some x) h = refl
-
-pub then_there : {A B : Type 0} (f : A → Option B) (o : Option A) → IsSome o → ((x : A) → IsSome (f x)) → IsSome (option_and_then f o)
-then_there f None h each = absurd (false≢true h)
-then_there f (Some x) h each = each x
 
 pub all_joined : {A : Type 0} (P : A → Type 0) (xs ys : List A) → AllByRecursion P xs → AllByRecursion P ys → AllByRecursion P (xs ++ ys)
 all_joined P [] ys h k = k
@@ -56,10 +41,6 @@ all_joined P (x ∷ xs) ys h k = (h.0, all_joined P xs ys h.1 k)
 pub object_there : (o : Option Data) (ms : Members) → option_and_then as_object o ≡ Some ms → o ≡ Some (object ms)
 object_there (Some (object ns)) ms e = ap (λ x. Some (object x)) (same_Some ns ms e)
 object_there _ ms e = absurd cc
-
-pub list_there : (o : Option Data) (ds : Items) → option_and_then as_array o ≡ Some ds → o ≡ Some (array ds)
-list_there (Some (array es)) ds e = ap (λ x. Some (array x)) (same_Some es ds e)
-list_there _ ds e = absurd cc
 
 pub word_there : (o : Option Data) (w : List ℕ) → option_and_then as_str o ≡ Some w → o ≡ Some (string w)
 word_there (Some (string s)) w e = ap (λ x. Some (string x)) (same_Some s w e)

@@ -2,7 +2,7 @@
 -- property that is there is what its row asks for.
 use Rattle.std.proofs.Common.{◌&&◌, codes, unwrap_or, arith, ◌≡◌, ◌++◌, ℕ, Bool, true, false, cond, List, [], ◌∷◌, map, Option, Some, None, Result, Ok, Err, refl, sym, subst, ◌∙◌, suc, option_map, option_and_then, ap}
 use Rattle.conf_laws.proofs.Readings.{at_found, optional_found, by_found, by_test}
-use Rattle.conf_laws.proofs.Words.{class_words, class_in, admits_class, presence_under, Told, rows_of, row_in, content_under, Place, At, Content, Needed, Presence, class_named, class_of, class_said, told_by, class_rule, all_there, resolved_content, is_left_out, left_out, is_needed, is_null, property_flaws, inner_flaws, member_flaws, content_flaws, item_flaws, rows_there, row_there, orders_there, may_inherit, admitted, other_class, itself_of, any_object, Known, inside, behind, with_taken, key_of, with_names, place_of_properties, item_content, is_position, own_place, shape_of, is_unsigned_integer, Flaw, key, within, index, here, optional, given, ◌>>=◌, at, needed, text_of, wanted_found, found_there, both_read, read_there, is_passed, Data, null, object, Members, member, Items, item, no_members, get_member, as_object, as_str, nat_tests, and-false, bytes_eq-Decides, bytes_eq, object_at as object_in, properties, ⊤}
+use Rattle.conf_laws.proofs.Words.{class_words, class_in, admits_class, presence_under, Told, rows_of, row_in, content_under, Place, At, Content, Needed, Presence, class_named, class_of, class_said, told_by, class_rule, all_there, resolved_content, is_left_out, left_out, is_needed, is_null, property_flaws, inner_flaws, member_flaws, content_flaws, item_flaws, rows_there, row_there, orders_there, may_inherit, admitted, other_class, itself_of, any_object, Known, inside, behind, with_taken, key_of, with_names, place_of_properties, item_content, is_position, own_place, shape_of, is_unsigned_integer, Flaw, key, within, index, here, optional, given, ◌>>=◌, at, needed, text_of, wanted_found, found_there, both_read, read_there, is_passed, Data, null, object, Members, member, Items, item, get_member, as_object, as_str, nat_tests, and-false, bytes_eq-Decides, bytes_eq, object_at as object_in, ⊤}
 use Rattle.conf_laws.proofs.Words.places
 use Rattle.conf_laws.proofs.Words.contents
 
@@ -281,10 +281,3 @@ module _ (k : Known) (around place : Place) (name : List ℕ) (ms : Members) (le
       let s = held_at k place p.value o p.sound.value in
       let found = optional_found name ms (object s.ms) (p.found ∙ ap Some s.is) refl in
       (s.ms, ap (option_and_then as_object) found, s.rows)
-
-  -- what holds of the properties of each sound object holds of these, where none at all are sound
-  pub by_object : (P : Members → Type 0) → all_there place no_members ≡ Ok tt → ((j : Known) (os : Members) → RowsSound j place os → P os) → P (properties name ms)
-  unfolding properties object_in
-  by_object P none each =
-      by_found (λ (o : Option Data). P (unwrap_or (option_and_then as_object o) no_members)) (optional name ms)
-      (λ f. each k no_members (record { there = none; flaws = refl })) (λ d f. let s = held_at k place d o (optional_sound k around name (At place) ms d leads h.flaws f).value in subst (λ x. P (unwrap_or (as_object x) no_members)) (sym s.is) (each (inside place s.ms k) s.ms s.rows))

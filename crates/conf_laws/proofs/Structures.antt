@@ -1,85 +1,25 @@
--- Field types that have no flaw say something, and so do the members of a structure, structures and the extra members of a packet
--- context. The names that members take are apart, and apart from names that were taken before.
-use Rattle.std.proofs.Common.{◌≡◌, ◌%◌, ◌==◌, ◌&&◌, ℕ, nat_eq, pos, Bool, true, false, cond, Some, IsSome, nat_lt, nat_le, leb-true, lt-ltb, arith, refl, sym, ap, subst, Option, None, is_some, Ok, ◌∙◌, ◌+◌, ◌||◌, List, [], ◌∷◌, ◌++◌, length, All, length-append, append_assoc, ◌⊎◌, suc, option_map, inl, inr, codes, unwrap_or, option_and_then}
-use Rattle.conf_laws.proofs.Numbers.{IsAlignment, alignment_or, needed_natural}
-use Rattle.conf_laws.proofs.Readings.{proved_there, element_is, by_element, mapped_there, all_joined, under_no_test, optional_found, then_there, by_found, by_test}
-use Rattle.conf_laws.proofs.Sound.{RowsSound, ContentSound, object_sound, needed_sound, TypeSound, type_sound, ObjectSound, PropertySound, object_at, content_sound, first_item, rows_sound, first_entry, Leads, optional_sound}
-use Rattle.conf_laws.proofs.Properties.{Property, leads, needed_by, MapPlace, is_map}
-use Rattle.conf_laws.proofs.Words.{admits_class, is_class, is_dynamic_array, Place, Whole, At, entries_of, itself_of, form_of, any_object, Known, inside, is_position, inner_flaws, item_flaws, nothing, with_taken, take, is_taken, key_of, key_by, free_of, is_dynamic, with_names, names_beside, own_place, place_of_properties, item_content, Members, Data, object, get_member, optional, here, WrongKind, is_passed, members_len, both_read, plain_name_of, Items, no_items, item, no_members, member, array, as_array, as_object, eqb-true, false≢true, or_parts, All-push, All-nil, list_any-append, map-append, bytes_eq-Decides, IsDistinct, option_map_or, AllByRecursion, list_any, bytes_eq, enumeration, field_type, element, of_class, static, length_of, size_of, default_align, integer, FieldType, object_at as object_in, list as list_in, member_type, member_said as member_of, behind_done, members_behind, made, align_for, listed, align_of, structure_of, structure, extra_members, names_in, IsPlainName, length_name, shown_members, Auto, AtMember, Plain, Dyn, MemberType, integer_align, integer_made}
-use Rattle.conf_laws.proofs.Words.places
+-- The members of a structure, structures and the extra members of a packet context that have no flaw say something; and where they pass no
+-- limit, that is what the rules allow. The names that members take are apart, and apart from names that were taken before.
+use Rattle.std.proofs.Common.{◌≡◌, ◌%◌, ◌==◌, ◌&&◌, ℕ, nat_eq, Bool, true, false, cond, Some, nat_lt, nat_le, leb-true, arith, refl, sym, ap, subst, Option, Ok, ◌∙◌, ◌+◌, ◌||◌, List, [], ◌∷◌, ◌++◌, length, All, length-append, append_assoc, ◌⊎◌, suc, inl, inr, codes, unwrap_or, option_and_then}
 use Rattle.conf_laws.proofs.Agreement.{taken_put}
-
-by_default : (size : ℕ) → IsAlignment (default_align size)
-by_default size = by_test (λ (b : Bool). IsAlignment (cond b 8 1)) (size % 8 == 0) (λ is. record { positive = refl; power = refl }) (λ is. record { positive = refl; power = refl })
-
-pub integer_said : (k : Known) (place : Place) (signed : Bool) (ms : Members) → Property true place (codes "size") (Whole (pos 1) (pos 64)) → RowsSound k place ms → IsSome (integer signed ms)
-unfolding integer integer_made size_of integer_align
-integer_said k place signed ms rows h =
-    let n = needed_natural k place (codes "size") 1 64 ms (leads rows) (needed_by rows) h (omega arith) in
-    let is = sym (ap (λ o. unwrap_or o 0) n.1) in
-    let align = alignment_or (codes "alignment") (default_align (size_of ms)) ms (by_default (size_of ms)) in
-    proved_there (nat_lt 0 (size_of ms)) _ (subst (λ x. nat_lt 0 x ≡ true) is (lt-ltb 0 n.0 (let a = leb-true 1 n.0 n.2 in omega arith)))
-    (λ _. proved_there (nat_le (size_of ms) 64) _ (subst (λ x. nat_le x 64 ≡ true) is n.3) (λ _. proved_there (nat_lt 0 (integer_align ms)) _ align.positive (λ _. proved_there (4096 % integer_align ms == 0) _ align.power (λ _. refl))))
-
-static_there : (n : ℕ) (o : Option FieldType) → nat_le n 1048576 ≡ true → IsSome o → IsSome (static n o)
-static_there n None l e = absurd (false≢true e)
-static_there n (Some t) l e = rw l refl
-
-length_fits : (k : Known) (ms : Members) → RowsSound k places.StaticArray ms → nat_le (length_of ms) 1048576 ≡ true
-unfolding length_of
-length_fits k ms h =
-    let n = needed_natural k places.StaticArray (codes "length") 0 1048576 ms (leads Property.static_length) (needed_by Property.static_length) h (omega arith) in
-    subst (λ o. nat_le (unwrap_or o 0) 1048576 ≡ true) (sym n.1) n.3
-
--- ---- a field type by its class
-
--- one whose class may stand in an array, and whose own elements say something
-class_said : (k : Known) (class : Place) (ms : Members) → admits_class places.ElementType class ≡ true → RowsSound (inside class ms k) class ms → (class ≡ places.StaticArray → IsSome (element ms))
-    → IsSome (of_class (Some class) ms (element ms))
-unfolding admits_class is_class of_class enumeration
-class_said k places.UnsignedInteger ms a h e = mapped_there _ (integer false ms) (integer_said _ places.UnsignedInteger false ms Property.unsigned_size h)
-class_said k places.SignedInteger ms a h e = mapped_there _ (integer true ms) (integer_said _ places.SignedInteger true ms Property.signed_size h)
-class_said k places.UnsignedEnumeration ms a h e = mapped_there _ (enumeration false ms) (mapped_there _ (integer false ms) (integer_said _ places.UnsignedEnumeration false ms Property.unsigned_enumeration_size h))
-class_said k places.SignedEnumeration ms a h e = mapped_there _ (enumeration true ms) (mapped_there _ (integer true ms) (integer_said _ places.SignedEnumeration true ms Property.signed_enumeration_size h))
-class_said k places.Str ms a h e = refl
-class_said k places.StaticArray ms a h e = static_there (length_of ms) (element ms) (length_fits _ ms h) (e refl)
-class_said k _ ms a h e = absurd (false≢true a)
-
--- what stands as an element says something
-abbrev IsSaidAt : Data → Type 0
-IsSaidAt d = (k : Known) → ContentSound k (At places.ElementType) d → IsSome (field_type d)
-
-object_said : (k : Known) (place : Place) (ms : Members) (t : TypeSound k place ms) → admits_class places.ElementType t.class ≡ true → ((x : Data) → get_member (codes "element-field-type") ms ≡ Some x → IsSaidAt x) → IsSome (field_type (object ms))
-object_said k place ms t a inner = subst (λ o. IsSome (of_class o ms (element ms))) (sym t.is) (class_said k t.class ms a t.rows (λ same. of_array same))
-  where
-    of_array : t.class ≡ places.StaticArray → IsSome (element ms)
-    of_array same =
-        let h = subst (λ p. RowsSound (inside t.class ms k) p ms) same t.rows in
-        let p = needed_sound (inside t.class ms k) places.StaticArray (codes "element-field-type") (At places.ElementType) ms (leads Property.element) (needed_by Property.element) h in
-        ap is_some (element_is ms ∙ ap (option_and_then field_type) p.found) ∙ inner p.value p.found (inside t.class ms k) p.sound.value
-
-element_said : (d : Data) → IsSaidAt d
-unfolding itself_of form_of any_object is_position
-element_said d = by_element IsSaidAt step d
-  where
-    step : (d : Data) → ((ms : Members) (x : Data) → d ≡ object ms → get_member (codes "element-field-type") ms ≡ Some x → IsSaidAt x) → IsSaidAt d
-    step (object ms) inner k h =
-        let t = type_sound k places.ElementType ms refl (object_sound k places.ElementType ms h.inner) in object_said k places.ElementType ms t t.may_stand (λ x there. inner ms x refl there)
-    step d inner k h = absurd (let e : any_object d ≡ Ok tt = h.itself in cc)
-
--- a field type where one of these classes may stand
-pub type_said : (k : Known) (place : Place) (ms : Members) (t : TypeSound k place ms) → admits_class places.ElementType t.class ≡ true → IsSome (field_type (object ms))
-type_said k place ms t a = object_said k place ms t a (λ x there. element_said x)
+use Rattle.conf_laws.proofs.AllowedMaps.{plain_name}
+use Rattle.conf_laws.proofs.FieldTypes.{bits_allowed, nest_allowed, type_says}
+use Rattle.conf_laws.proofs.Numbers.{IsAlignment, alignment_or}
+use Rattle.conf_laws.proofs.Properties.{IsWithin, AreWithin, AreItemsWithin, object_within, list_within, property_within, optional_within, entry_within, item_within, fitting_parts, Property, leads, needed_by, MapPlace, is_map, OwnPlace, is_own}
+use Rattle.conf_laws.proofs.Readings.{Says, proved_says, element_is, all_joined, under_no_test, optional_found, some_there, was_so, by_found, by_test}
+use Rattle.conf_laws.proofs.Sound.{RowsSound, ContentSound, ObjectSound, object_sound, needed_sound, type_sound, class_place, object_at, content_sound, first_item, rows_sound, first_entry, optional_sound}
+use Rattle.conf_laws.proofs.Words.{admits_class, is_dynamic_array, Place, At, entries_of, at_most, itself_of, form_of, Known, inside, is_position, inner_flaws, item_flaws, member_flaws, nothing, with_taken, take, is_taken, key_of, key_by, free_of, is_dynamic, class_of, class_of_member, elements, fits, arrays_fit, is_outermost, shape_of, with_names, names_beside, own_place, place_of_properties, item_content, Members, Data, object, get_member, optional, here, WrongKind, is_passed, members_len, items_len, both_read, plain_name_of, Items, no_items, item, no_members, member, array, as_array, as_object, eqb-true, false≢true, or_parts, All-push, All-nil, All-from_recursion, list_any-append, map-append, bytes_eq-Decides, IsDistinct, option_map_or, AllByRecursion, list_any, bytes_eq, field_type, element, object_at as object_named, list as list_in, member_type, member_said as member_of, behind_done, members_behind, made, align_for, listed, align_of, structure_of, structure, extra_members, names_in, own_names, IsPlainName, IsConfigMember, AreConfigMembers, IsConfigStruct, StructType, length_name, shown_members, Auto, AtMember, Plain, Dyn, MemberType}
+use Rattle.conf_laws.proofs.Words.places
 
 -- ---- what a member takes
 
-abbrev pub names_of : List ℕ × MemberType → List (List ℕ)
+abbrev names_of : List ℕ × MemberType → List (List ℕ)
 names_of (name, Plain t) = name ∷ []
 names_of (name, Dyn t Auto) = length_name name ∷ name ∷ []
 names_of (name, Dyn t (AtMember i)) = name ∷ []
 
 -- the names of members as a reader shows them
-abbrev pub shown_of : List (List ℕ × MemberType) → List (List ℕ)
+abbrev shown_of : List (List ℕ × MemberType) → List (List ℕ)
 shown_of ms = names_in (shown_members 0 ms)
 
 shown_last : (n : ℕ) (ms : List (List ℕ × MemberType)) (name : List ℕ) (m : MemberType) → names_in (shown_members n (ms ++ (name, m) ∷ [])) ≡ names_in (shown_members n ms) ++ names_of (name, m)
@@ -93,35 +33,35 @@ shown_last n ((other, Dyn t (AtMember i)) ∷ ms) name m = ap (λ l. other ∷ l
 
 -- ---- names that are taken
 
-abbrev pub AreTaken : Members → List (List ℕ) → Type 0
+abbrev AreTaken : Members → List (List ℕ) → Type 0
 AreTaken taken names = AllByRecursion (λ name. is_taken taken name ≡ true) names
 
-abbrev pub AreFree : Members → List (List ℕ) → Type 0
+abbrev AreFree : Members → List (List ℕ) → Type 0
 AreFree taken names = AllByRecursion (λ name. is_taken taken name ≡ false) names
 
-pub takes_itself : (name : List ℕ) (taken : Members) → is_taken (take name taken) name ≡ true
+takes_itself : (name : List ℕ) (taken : Members) → is_taken (take name taken) name ≡ true
 takes_itself name taken = (taken_put name name taken).1 (inl refl)
 
-pub all_still_taken : (name : List ℕ) (taken : Members) (names : List (List ℕ)) → AreTaken taken names → AreTaken (take name taken) names
+all_still_taken : (name : List ℕ) (taken : Members) (names : List (List ℕ)) → AreTaken taken names → AreTaken (take name taken) names
 all_still_taken name taken [] h = tt
 all_still_taken name taken (other ∷ names) h = ((taken_put other name taken).1 (inr h.0), all_still_taken name taken names h.1)
 
 -- with those of the member
-abbrev pub with_member : List ℕ → Bool → Members → Members
+abbrev with_member : List ℕ → Bool → Members → Members
 with_member name b taken = take name (cond b (take (length_name name) taken) taken)
 
-pub keeps_taken : (name : List ℕ) (b : Bool) (taken : Members) (names : List (List ℕ)) → AreTaken taken names → AreTaken (with_member name b taken) names
+keeps_taken : (name : List ℕ) (b : Bool) (taken : Members) (names : List (List ℕ)) → AreTaken taken names → AreTaken (with_member name b taken) names
 keeps_taken name true taken names h = all_still_taken name (take (length_name name) taken) names (all_still_taken (length_name name) taken names h)
 keeps_taken name false taken names h = all_still_taken name taken names h
 
 -- a name that is free is none of those that are taken
-pub apart_from_taken : (taken : Members) (name : List ℕ) (names : List (List ℕ)) → is_taken taken name ≡ false → AreTaken taken names → list_any (bytes_eq name) names ≡ false
+apart_from_taken : (taken : Members) (name : List ℕ) (names : List (List ℕ)) → is_taken taken name ≡ false → AreTaken taken names → list_any (bytes_eq name) names ≡ false
 apart_from_taken taken name [] free h = refl
 apart_from_taken taken name (other ∷ names) free h =
     by_test (λ (b : Bool). list_any (bytes_eq name) names ≡ false → (b || list_any (bytes_eq name) names) ≡ false) (bytes_eq name other)
     (λ is rest. absurd (false≢true (sym free ∙ subst (λ n. is_taken taken n ≡ true) (sym ((bytes_eq-Decides name other).0 is)) h.0))) (λ is rest. rest) (apart_from_taken taken name names free h.1)
 
-abbrev pub AreApart : List (List ℕ) → List (List ℕ) → Type 0
+abbrev AreApart : List (List ℕ) → List (List ℕ) → Type 0
 AreApart before names = AllByRecursion (λ name. list_any (bytes_eq name) before ≡ false) names
 
 all_apart : (taken : Members) (before names : List (List ℕ)) → AreFree taken names → AreTaken taken before → AreApart before names
@@ -150,41 +90,60 @@ distinct_more xs name (Dyn t Auto) h free =
     subst (λ l. IsDistinct bytes_eq l) (append_assoc xs (length_name name ∷ []) (name ∷ [])) (distinct_last (xs ++ length_name name ∷ []) name first both)
 
 -- the members so far, beside names that were taken before
-pub record AreNamed (before : List (List ℕ)) (ms : List (List ℕ × MemberType)) (taken : Members) : Type 0 where
-  pub names : All IsPlainName (names_in ms)
-  pub before_taken : AreTaken taken before
-  pub shown_taken : AreTaken taken (shown_of ms)
-  pub distinct : IsDistinct bytes_eq (shown_of ms)
-  pub free : AreApart before (shown_of ms)
+record AreNamed (before : List (List ℕ)) (ms : List (List ℕ × MemberType)) (taken : Members) : Type 0 where
+  names : All IsPlainName (names_in ms)
+  before_taken : AreTaken taken before
+  names_taken : AreTaken taken (names_in ms)
+  shown_taken : AreTaken taken (shown_of ms)
+  distinct : IsDistinct bytes_eq (shown_of ms)
+  free : AreApart before (shown_of ms)
 
-pub none_named : (before : List (List ℕ)) (taken : Members) → AreTaken taken before → AreNamed before [] taken
+none_named : (before : List (List ℕ)) (taken : Members) → AreTaken taken before → AreNamed before [] taken
 unfolding shown_members IsDistinct
-none_named before taken h = record { names = All-nil IsPlainName; before_taken = h; shown_taken = tt; distinct = tt; free = tt }
+none_named before taken h = record { names = All-nil IsPlainName; before_taken = h; names_taken = tt; shown_taken = tt; distinct = tt; free = tt }
 
 -- one more, where `after` has its names too
-pub one_more_named : (before : List (List ℕ)) (ms : List (List ℕ × MemberType)) (taken after : Members) (name : List ℕ) (m : MemberType) → AreNamed before ms taken → IsPlainName name → AreFree taken (names_of (name, m))
-    → ((names : List (List ℕ)) → AreTaken taken names → AreTaken after names) → AreTaken after (names_of (name, m)) → AreNamed before (ms ++ (name, m) ∷ []) after
-one_more_named before ms taken after name m h plain free keeps takes =
+one_more_named : (before : List (List ℕ)) (ms : List (List ℕ × MemberType)) (taken after : Members) (name : List ℕ) (m : MemberType) → AreNamed before ms taken → IsPlainName name → AreFree taken (names_of (name, m))
+    → ((names : List (List ℕ)) → AreTaken taken names → AreTaken after names) → AreTaken after (names_of (name, m)) → is_taken after name ≡ true → AreNamed before (ms ++ (name, m) ∷ []) after
+one_more_named before ms taken after name m h plain free keeps takes own =
     let shown = shown_last 0 ms name m in
+    let named = map-append (λ (e : List ℕ × MemberType). e.0) ms ((name, m) ∷ []) in
     record {
-      names = subst (λ l. All IsPlainName l) (sym (map-append (λ (e : List ℕ × MemberType). e.0) ms ((name, m) ∷ []))) (All-push IsPlainName (names_in ms) name h.names plain);
+      names = subst (λ l. All IsPlainName l) (sym named) (All-push IsPlainName (names_in ms) name h.names plain);
       before_taken = keeps before h.before_taken;
+      names_taken = subst (λ l. AreTaken after l) (sym named) (all_joined (λ n. is_taken after n ≡ true) (names_in ms) (name ∷ []) (keeps (names_in ms) h.names_taken) (own, tt));
       shown_taken = subst (λ l. AreTaken after l) (sym shown) (all_joined (λ n. is_taken after n ≡ true) (shown_of ms) (names_of (name, m)) (keeps (shown_of ms) h.shown_taken) takes);
       distinct = subst (λ l. IsDistinct bytes_eq l) (sym shown) (distinct_more (shown_of ms) name m h.distinct (all_apart taken (shown_of ms) (names_of (name, m)) free h.shown_taken));
       free = subst (λ l. AreApart before l) (sym shown) (all_joined (λ n. list_any (bytes_eq n) before ≡ false) (shown_of ms) (names_of (name, m)) h.free (all_apart taken before (names_of (name, m)) free h.before_taken));
     }
 
-dynamic_element_said : (k : Known) (d : Data) → ContentSound k (At places.DynamicElementType) d → IsSome (field_type d)
-unfolding itself_of form_of is_position admits_class
-dynamic_element_said k d h =
-    let o = object_at k places.DynamicElementType d h refl in
-    let t = type_sound k places.DynamicElementType o.ms refl o.sound in
-    subst (λ x. IsSome (field_type x)) (sym o.is) (type_said k places.DynamicElementType o.ms t (t.may_stand))
+-- ---- the type of a member
 
-array_said : (k : Known) (ms : Members) → RowsSound k places.DynamicArray ms → IsSome (element ms)
-array_said k ms h =
+-- the names that a member takes, by whether it is a dynamic array
+abbrev names_by : Bool → List ℕ → List (List ℕ)
+names_by true name = length_name name ∷ name ∷ []
+names_by false name = name ∷ []
+
+abbrev IsTyped : Bool → MemberType → Type 0
+IsTyped dynamic m = (name : List ℕ) → names_by dynamic name ≡ names_of (name, m)
+
+-- the elements of a dynamic array
+elements_say : (k : Known) (ms : Members) → RowsSound k places.DynamicArray ms → Says (element ms) (λ t. AreWithin places.DynamicArray ms → IsConfigMember (Dyn t Auto))
+unfolding itself_of form_of is_position admits_class fits arrays_fit is_outermost shape_of
+elements_say k ms h =
     let p = needed_sound k places.DynamicArray (codes "element-field-type") (At places.DynamicElementType) ms (leads Property.dynamic_element) (needed_by Property.dynamic_element) h in
-    ap is_some (element_is ms ∙ ap (option_and_then field_type) p.found) ∙ dynamic_element_said k p.value p.sound.value
+    let o = object_at k places.DynamicElementType p.value p.sound.value refl in
+    let t = type_sound k places.DynamicElementType o.ms refl o.sound in
+    let x = type_says k places.DynamicElementType o.ms refl t t.may_stand in
+    let found : get_member (codes "element-field-type") ms ≡ Some (object o.ms) = p.found ∙ ap Some o.is in (
+      x.0,
+      element_is ms ∙ ap (option_and_then field_type) found ∙ x.1,
+      λ h.
+          let good = property_within Property.dynamic_element ms (object o.ms) h found in
+          let nests = some_there (elements 8 (object o.ms)) (fitting_parts places.DynamicElementType (object o.ms) good.fitting).0 in
+          let allowed = x.2 good in
+          ((allowed.leaf, nest_allowed (object o.ms) x.0 allowed nests.0 nests.1), bits_allowed (object o.ms) x.0 allowed (was_so _ t.shape)),
+    )
 
 member_class : (class : Place) → admits_class places.MemberType class ≡ true → (class ≡ places.DynamicArray) ⊎ ((is_dynamic_array class ≡ false) × (admits_class places.ElementType class ≡ true))
 unfolding admits_class
@@ -192,154 +151,233 @@ member_class places.DynamicArray a = inl refl
 member_class places.Structure a = absurd (false≢true a)
 member_class _ a = inr (refl, a)
 
-member_said : (k : Known) (ms : Members) → ObjectSound k places.MemberType ms → IsSome (member_type ms)
-unfolding member_type is_position
-member_said k ms h =
+member_says : (k : Known) (ms : Members) → ObjectSound k places.MemberType ms → Says (member_type ms) (λ m. IsTyped (option_map_or is_dynamic_array (class_of ms) false) m × (IsWithin (At places.MemberType) (object ms) → IsConfigMember m))
+unfolding member_type is_position inside fits arrays_fit is_outermost
+member_says k ms h =
     let t = type_sound k places.MemberType ms refl h in
-    subst (λ o. IsSome (cond (option_map_or is_dynamic_array o false) (option_map (λ x. Dyn x Auto) (element ms)) (option_map (λ x. Plain x) (field_type (object ms))))) (sym t.is) (elim (member_class t.class t.may_stand) [
+    elim (member_class t.class t.may_stand) [
       | inl same ↦
-          let said = array_said (inside t.class ms k) ms (subst (λ p. RowsSound (inside t.class ms k) p ms) same t.rows) in
-          subst (λ c. IsSome (cond (is_dynamic_array c) (option_map (λ x. Dyn x Auto) (element ms)) (option_map (λ x. Plain x) (field_type (object ms))))) (sym same) (mapped_there (λ x. Dyn x Auto) (element ms) said)
-      | inr other ↦ subst (λ b. IsSome (cond b (option_map (λ x. Dyn x Auto) (element ms)) (option_map (λ x. Plain x) (field_type (object ms))))) (sym other.0) (mapped_there (λ x. Plain x) (field_type (object ms)) (type_said k places.MemberType ms t other.1))
-    ])
+          let is : class_of ms ≡ Some places.DynamicArray = t.is ∙ ap Some same in
+          let dynamic : option_map_or is_dynamic_array (class_of ms) false ≡ true = ap (λ o. option_map_or is_dynamic_array o false) is in
+          let x = elements_say k ms (subst (λ p. RowsSound (inside p ms k) p ms) same t.rows) in
+          (Dyn x.0 Auto, rw (dynamic, x.1) refl, ((λ name. ap (λ b. names_by b name) dynamic), λ good. x.2 (object_within places.MemberType places.DynamicArray ms (class_place places.MemberType ms places.DynamicArray refl is) good)))
+      | inr other ↦
+          let plain : option_map_or is_dynamic_array (class_of ms) false ≡ false = ap (λ o. option_map_or is_dynamic_array o false) t.is ∙ other.0 in
+          let x = type_says k places.MemberType ms refl t other.1 in (
+            Plain x.0,
+            rw (plain, x.1) refl,
+            ((λ name. ap (λ b. names_by b name) plain), λ good. let nests = some_there (elements 8 (object ms)) (fitting_parts places.MemberType (object ms) good.fitting).0 in let allowed = x.2 good in (allowed.leaf, nest_allowed (object ms) x.0 allowed nests.0 nests.1)),
+          )
+    ]
 
-told_said : (k : Known) (told : Members) (y : Data) → get_member (codes "field-type") told ≡ Some y → ContentSound k (At places.MemberType) y → IsSome (option_and_then member_type (object_in (codes "field-type") told))
-unfolding itself_of form_of object_in
-told_said k told y found h =
-    let o = object_at k places.MemberType y h refl in
-    let there = optional_found (codes "field-type") told (object o.ms) (found ∙ ap Some o.is) refl in
-    subst (λ x. IsSome (option_and_then member_type (option_and_then as_object x))) (sym there) (member_said k o.ms o.sound)
-
-member_there : (k : Known) (x : Data) → ContentSound k (At places.Member) x → IsSome (member_of x)
-unfolding itself_of form_of place_of_properties is_position own_place inside
-member_there k x h =
+-- what the value of an entry tells of
+told_says : (k : Known) (x : Data) → ContentSound k (At places.Member) x → Says (member_of x) (λ m. IsTyped (is_dynamic x) m × (IsWithin (At places.Member) x → IsConfigMember m))
+unfolding itself_of form_of place_of_properties is_position own_place inside object_named is_dynamic
+told_says k x h =
     let o = object_at k places.Member x h refl in
     let p = needed_sound k places.Member (codes "field-type") (At places.MemberType) o.ms (leads Property.type_of_member) (needed_by Property.type_of_member) (rows_sound k places.Member places.Member o.ms refl o.sound) in
-    subst (λ y. IsSome (member_of y)) (sym o.is) (told_said k o.ms p.value p.found p.sound.value)
+    let y = object_at k places.MemberType p.value p.sound.value refl in
+    let m = member_says k y.ms y.sound in
+    let found : get_member (codes "field-type") o.ms ≡ Some (object y.ms) = p.found ∙ ap Some y.is in
+    let there = optional_found (codes "field-type") o.ms (object y.ms) found refl in
+    let dynamic : is_dynamic x ≡ option_map_or is_dynamic_array (class_of y.ms) false =
+    ap (λ z. option_map_or is_dynamic_array (class_of_member z) false) o.is ∙ ap (λ q. option_map_or is_dynamic_array (option_and_then class_of (option_and_then as_object q)) false) found in (
+      m.0,
+      ap member_of o.is ∙ ap (λ q. option_and_then member_type (option_and_then as_object q)) there ∙ m.1,
+      (
+        (λ name. ap (λ b. names_by b name) dynamic ∙ m.2.0 name),
+        λ good.
+            let own = object_within places.Member places.Member o.ms ((is_own OwnPlace.named_member).own o.ms) (subst (λ z. IsWithin (At places.Member) z) o.is good) in
+            m.2.1 (property_within Property.type_of_member o.ms (object y.ms) own found),
+      ),
+    )
 
 -- ---- an entry
 
-pub entry_shape : (d : Data) → form_of nothing places.Entry d ≡ Ok tt → (name : List ℕ) × (x : Data) × (d ≡ object (member name x no_members))
+entry_shape : (d : Data) → form_of nothing places.Entry d ≡ Ok tt → (name : List ℕ) × (x : Data) × (d ≡ object (member name x no_members))
 unfolding form_of
 entry_shape (object (member name x no_members)) e = (name, x, refl)
 entry_shape (object (member name x (member other y ms))) e = absurd (let one = eqb-true (suc (suc (members_len ms))) 1 (is_passed (nat_eq (suc (suc (members_len ms))) 1) tt tt (here WrongKind) e).0 in omega (arith, one))
 entry_shape _ e = absurd cc
 
 -- its name is one that a member can have, it is free, and so is that of its length
-pub name_judged : (k : Known) (name : List ℕ) (d : Data) → key_of k places.Entry name d ≡ Ok tt → (plain_name_of name ≡ Ok tt) × (is_taken k.taken name ≡ false) × ((is_dynamic d && is_taken k.taken (length_name name)) ≡ false)
+name_judged : (k : Known) (name : List ℕ) (d : Data) → key_of k places.Entry name d ≡ Ok tt → (plain_name_of name ≡ Ok tt) × (is_taken k.taken name ≡ false) × ((is_dynamic d && is_taken k.taken (length_name name)) ≡ false)
 unfolding key_of key_by entries_of free_of
 name_judged k name d e =
     let judged = both_read (plain_name_of name) _ tt e in
     let free = or_parts (is_taken k.taken name) (is_dynamic d && is_taken k.taken (length_name name)) (under_no_test _ tt tt _ judged.2) in
     (judged.1, free.0, free.1)
 
--- its name is taken behind it
-more_taken : (done : List (List ℕ × MemberType)) (taken : Members) (name : List ℕ) (b : Bool) (t : MemberType) → AreTaken taken (names_in done) → AreTaken (with_member name b taken) (names_in (done ++ (name, t) ∷ []))
-more_taken done taken name b t h =
-    subst (λ l. AreTaken (with_member name b taken) l) (sym (map-append (λ (m : List ℕ × MemberType). m.0) done ((name, t) ∷ [])))
-    (all_joined (λ n. is_taken (with_member name b taken) n ≡ true) (names_in done) (name ∷ []) (keeps_taken name b taken (names_in done) h) (takes_itself name (cond b (take (length_name name) taken) taken), tt))
+free_by : (taken : Members) (name : List ℕ) (b : Bool) → is_taken taken name ≡ false → (b && is_taken taken (length_name name)) ≡ false → AreFree taken (names_by b name)
+free_by taken name true own long = (long, (own, tt))
+free_by taken name false own long = (own, tt)
 
--- a member whose name is none of those before it
-behind_there : (done : List (List ℕ × MemberType)) (name : List ℕ) (o : Option MemberType) → IsSome o → list_any (bytes_eq name) (names_in done) ≡ false → (t : MemberType) × (behind_done done name o ≡ Some (done ++ (name, t) ∷ []))
-unfolding behind_done
-behind_there done name None h free = absurd (false≢true h)
-behind_there done name (Some t) h free = (t, rw free refl)
+takes_names : (name : List ℕ) (b : Bool) (taken : Members) → AreTaken (with_member name b taken) (names_by b name)
+takes_names name true taken = ((all_still_taken name (take (length_name name) taken) (length_name name ∷ []) (takes_itself (length_name name) taken, tt)).0, (takes_itself name (take (length_name name) taken), tt))
+takes_names name false taken = (takes_itself name taken, tt)
 
--- the entries from place i on, behind members whose names are taken
-abbrev RestSaid : Known → Place → Items → Type 0
-RestSaid k place ds = (taken : Members) (i : ℕ) (done : List (List ℕ × MemberType)) → AreTaken taken (names_in done) → item_flaws k place taken i ds ≡ [] → IsSome (members_behind done ds)
+-- ---- the list
 
-one_more : (k : Known) (place : Place) (ds : Items) (taken : Members) (i : ℕ) (done : List (List ℕ × MemberType)) (name : List ℕ) (told : Data) → AreTaken taken (names_in done)
-    → PropertySound (with_taken taken k) places.Entry name (At places.Member) told
-    → item_flaws k place (with_names (object (member name told no_members)) taken) (suc i) ds ≡ [] → RestSaid k place ds → IsSome (members_behind done (item (object (member name told no_members)) ds))
-one_more k place ds taken i done name told h s f rest =
-    let free = apart_from_taken taken name (names_in done) (name_judged (with_taken taken k) name told s.named).1 h in
-    let more = behind_there done name (member_of told) (member_there (with_taken taken k) told s.value) free in
-    rw more.1 (rest _ (suc i) (done ++ (name, more.0) ∷ []) (more_taken done taken name (is_dynamic told) more.0 h) f)
+-- the members of a list, with those that are done before its items from place i on
+record AreRead (place : Place) (before : List (List ℕ)) (i : ℕ) (done : List (List ℕ × MemberType)) (ds : Items) (ms : List (List ℕ × MemberType)) : Type 0 where
+  after : Members
+  named : AreNamed before ms after
+  counted : length ms ≡ length done + items_len ds
+  types : All (λ m. IsConfigMember m.1) done → AreItemsWithin place i ds → All (λ m. IsConfigMember m.1) ms
 
-items_said : (ds : Items) (k : Known) (place : Place) → item_content place ≡ At places.Entry → RestSaid k place ds
-unfolding itself_of form_of place_of_properties is_position own_place inside
-items_said no_items k place entries taken i done h f = refl
-items_said (item d ds) k place entries taken i done h f =
-    let first = first_item k place taken i d ds f in
-    let j = with_taken taken k in
-    let entry = subst (λ c. ContentSound j c d) entries (content_sound j (item_content place) d first.0) in
-    let s = entry_shape d entry.itself in
-    let rows = rows_sound j places.Entry places.Entry _ refl (object_sound j places.Entry (member s.0 s.1 no_members) (subst (λ x. inner_flaws j (At places.Entry) x ≡ []) s.2 entry.inner)) in
-    let sound = (first_entry j places.Entry s.0 (At places.Member) s.1 no_members (is_map MapPlace.entry) rows.flaws).0 in
-    subst (λ x. IsSome (members_behind done (item x ds))) (sym s.2)
-    (one_more k place ds taken i done s.0 s.1 h sound (subst (λ x. item_flaws k place (with_names x taken) (suc i) ds ≡ []) s.2 first.1) (items_said ds k place entries))
+module _ (k : Known) (place : Place) (before : List (List ℕ)) (entries : item_content place ≡ At places.Entry) where
+  items_say : (ds : Items) (taken : Members) (i : ℕ) (done : List (List ℕ × MemberType)) → AreNamed before done taken → item_flaws k place taken i ds ≡ [] → Says (members_behind done ds) (AreRead place before i done ds)
+  unfolding itself_of form_of place_of_properties is_position own_place inside behind_done
+  items_say no_items taken i done h f = (done, refl, record { after = taken; named = h; counted = omega arith; types = λ all good. all })
+  items_say (item d ds) taken i done h f =
+      let first = first_item k place taken i d ds f in
+      let j = with_taken taken k in
+      let sound = subst (λ c. ContentSound j c d) entries (content_sound j (item_content place) d first.0) in
+      let s = entry_shape d sound.itself in
+      let name = s.0 in
+      let ms = member name s.1 no_members in
+      let rows = rows_sound j places.Entry places.Entry ms refl (object_sound j places.Entry ms (subst (λ x. inner_flaws j (At places.Entry) x ≡ []) s.2 sound.inner)) in
+      let entry = (first_entry j places.Entry name (At places.Member) s.1 no_members (is_map MapPlace.entry) rows.flaws).0 in
+      let m = told_says j s.1 entry.value in
+      let names = m.2.0 name in
+      let judged = name_judged j name s.1 entry.named in
+      let b = is_dynamic s.1 in
+      let free = apart_from_taken taken name (names_in done) judged.1 h.names_taken in
+      let named = one_more_named before done taken (with_member name b taken) name m.0 h (plain_name name judged.0) (subst (λ l. AreFree taken l) names (free_by taken name b judged.1 judged.2))
+      (λ ns t. keeps_taken name b taken ns t) (subst (λ l. AreTaken (with_member name b taken) l) names (takes_names name b taken)) (takes_itself name (cond b (take (length_name name) taken) taken)) in
+      let more = done ++ (name, m.0) ∷ [] in
+      let rest = items_say ds (with_member name b taken) (suc i) more named (subst (λ x. item_flaws k place (with_names x taken) (suc i) ds ≡ []) s.2 first.1) in
+      let step : members_behind done (item (object ms) ds) ≡ members_behind more ds = rw (m.1, free) refl in
+      let counted = rest.2.counted in (
+        rest.0,
+        ap (λ x. members_behind done (item x ds)) s.2 ∙ step ∙ rest.1,
+        record {
+          after = rest.2.after;
+          named = rest.2.named;
+          counted = omega (arith, counted, length-append done ((name, m.0) ∷ []));
+          types = λ all good.
+              let items = item_within place i d ds good in
+              let first = subst (λ x. IsWithin (At places.Entry) x) s.2 (subst (λ c. IsWithin c d) entries items.0) in
+              let value = (entry_within MapPlace.entry name s.1 no_members (object_within places.Entry places.Entry ms ((is_own OwnPlace.entry).own ms) first)).0 in
+              rest.2.types (All-push (λ (m : List ℕ × MemberType). IsConfigMember m.1) done (name, m.0) all (m.2.1 value)) items.1;
+        },
+      )
 
--- ---- what a structure is made of
+-- a list of entries that tell of members, of which there are 256 at most
+record IsMemberList (place : Place) : Type 0 where
+  form : (k : Known) (d : Data) → itself_of k (At place) d ≡ form_of nothing places.Members d
+  entries : item_content place ≡ At places.Entry
+  most : (n : ℕ) → at_most (entries_of place) n ≡ nat_le n 256
 
-no_alignment : IsAlignment 1
-no_alignment = record { positive = refl; power = refl }
+members_list : IsMemberList places.Members
+unfolding itself_of form_of item_content entries_of
+members_list = record { form = λ k d. refl; entries = refl; most = λ n. refl }
 
-structure_made : (members : List (List ℕ × MemberType)) (align : ℕ) → IsAlignment align → IsSome (made members align)
-unfolding made
-structure_made members align a = proved_there (nat_lt 0 align) _ a.positive (λ _. proved_there (4096 % align == 0) _ a.power (λ _. refl))
-
-aligned : (members : List (List ℕ × MemberType)) (align : ℕ) → IsAlignment align → IsAlignment (align_for members align)
-aligned [] align a = no_alignment
-aligned (m ∷ members) align a = a
-
--- a list of entries that tell of members
-pub record IsMemberList (place : Place) : Type 0 where
-  pub form : (k : Known) (d : Data) → itself_of k (At place) d ≡ form_of nothing places.Members d
-  pub entries : item_content place ≡ At places.Entry
-
-pub members_list : IsMemberList places.Members
-unfolding itself_of form_of item_content
-members_list = record { form = λ k d. refl; entries = refl }
-
-pub extras_list : IsMemberList places.ExtraMembers
-unfolding itself_of form_of item_content
-extras_list = record { form = λ k d. refl; entries = refl }
+extras_list : IsMemberList places.ExtraMembers
+unfolding itself_of form_of item_content entries_of
+extras_list = record { form = λ k d. refl; entries = refl; most = λ n. refl }
 
 is_list : (d : Data) → form_of nothing places.Members d ≡ Ok tt → (ds : Items) × (d ≡ array ds)
 unfolding form_of
 is_list (array ds) e = (ds, refl)
 is_list _ e = absurd cc
 
-members_there : (k : Known) (place : Place) (d : Data) → IsMemberList place → ContentSound k (At place) d → IsSome (members_behind [] (unwrap_or (as_array d) no_items))
-members_there k place d m h =
-    let s = is_list d (sym (m.form k d) ∙ h.itself) in
-    subst (λ x. IsSome (members_behind [] (unwrap_or (as_array x) no_items))) (sym s.1)
-    (items_said s.0 k place m.entries (names_beside place) 0 [] tt (subst (λ x. inner_flaws k (At place) x ≡ []) s.1 h.inner))
+no_members_allowed : AreConfigMembers []
+unfolding shown_members IsDistinct
+no_members_allowed = record { types = All-nil (λ m. IsConfigMember m.1); names = All-nil IsPlainName; distinct = tt; few = omega arith }
 
-listed_there : (k : Known) (around place : Place) (name : List ℕ) (ms : Members) → Leads around name (At place) → IsMemberList place → RowsSound k around ms → IsSome (listed name ms)
-unfolding listed list_in
-listed_there k around place name ms leads m h =
-    by_found (λ (o : Option Data). IsSome (members_behind [] (unwrap_or (option_and_then as_array o) no_items))) (optional name ms) (λ f. refl) (λ d f. members_there k place d m (optional_sound k around name (At place) ms d leads h.flaws f).value)
+-- the members of a list, apart from names that were taken before
+module _ (k : Known) {b : Bool} {around place : Place} {name : List ℕ} (property : Property b around name (At place)) (ms : Members) (m : IsMemberList place) (f : member_flaws k around ms ≡ []) (before : List (List ℕ)) (taken : AreTaken (names_beside place) before) where
+  abbrev IsListed : List (List ℕ × MemberType) → Type 0
+  IsListed members = AreApart before (shown_of members) × (AreWithin around ms → AreConfigMembers members)
+
+  found_says : (d : Data) → optional name ms ≡ Some d → Says (members_behind [] (unwrap_or (as_array d) no_items)) IsListed
+  found_says d is =
+      let sound = (optional_sound k around name (At place) ms d (leads property) f is).value in
+      let s = is_list d (sym (m.form k d) ∙ sound.itself) in
+      let all = items_say k place before m.entries s.0 (names_beside place) 0 [] (none_named before (names_beside place) taken) (subst (λ x. inner_flaws k (At place) x ≡ []) s.1 sound.inner) in
+      let named = all.2.named in
+      let counted = all.2.counted in
+      subst (λ x. Says (members_behind [] (unwrap_or (as_array x) no_items)) IsListed) (sym s.1) (
+        all.0,
+        all.1,
+        (
+          named.free,
+          λ h.
+              let good = subst (λ x. IsWithin (At place) x) s.1 (optional_within property ms d h is) in
+              let short = leb-true (items_len s.0) 256 (sym (m.most (items_len s.0)) ∙ (fitting_parts place (array s.0) good.fitting).1) in
+              record { types = all.2.types (All-nil (λ m. IsConfigMember m.1)) (list_within place s.0 good); names = named.names; distinct = named.distinct; few = omega (arith, counted, short) },
+        ),
+      )
+
+  listed_says : Says (listed name ms) IsListed
+  unfolding listed list_in shown_members
+  listed_says = by_found (λ (o : Option Data). Says (members_behind [] (unwrap_or (option_and_then as_array o) no_items)) IsListed) (optional name ms) (λ is. ([], refl, (tt, λ h. no_members_allowed))) found_says
 
 -- ---- structures
 
-structure_object_said : (k : Known) (ms : Members) → RowsSound k places.Structure ms → IsSome (structure_of ms)
-unfolding structure_of align_of
-structure_object_said k ms h =
-    then_there (λ members. made members (align_for members (align_of ms))) (listed (codes "members") ms) (listed_there k places.Structure places.Members (codes "members") ms (leads Property.members) members_list h)
-    (λ members. structure_made members (align_for members (align_of ms)) (aligned members (align_of ms) (alignment_or (codes "minimum-alignment") 1 ms no_alignment)))
+no_alignment : IsAlignment 1
+no_alignment = record { positive = refl; power = refl }
 
-pub structure_class : (class : Place) → admits_class places.StructureType class ≡ true → class ≡ places.Structure
+made_says : (members : List (List ℕ × MemberType)) (align : ℕ) → IsAlignment align → Says (made members align) (λ s. (s.members ≡ members) × (s.min_align ≡ align))
+unfolding made
+made_says members align a = proved_says (λ s. (s.members ≡ members) × (s.min_align ≡ align)) (nat_lt 0 align) _ a.positive (λ _. proved_says (λ s. (s.members ≡ members) × (s.min_align ≡ align)) (4096 % align == 0) _ a.power (λ _. (_, refl, (refl, refl))))
+
+aligned : (members : List (List ℕ × MemberType)) (align : ℕ) → IsAlignment align → IsAlignment (align_for members align)
+aligned [] align a = no_alignment
+aligned (m ∷ members) align a = a
+
+-- a structure without members aligns nothing
+struct_of : (members : List (List ℕ × MemberType)) (align : ℕ) (s : StructType) → (s.members ≡ members) × (s.min_align ≡ align_for members align) → AreConfigMembers members → IsConfigStruct s
+struct_of members align s (all, least) h = record { members = subst (λ l. AreConfigMembers l) (sym all) h; empty = λ none. least ∙ ap (λ l. align_for l align) (sym all ∙ none) }
+
+object_says : (k : Known) (ms : Members) → RowsSound k places.Structure ms → Says (structure_of ms) (λ s. AreWithin places.Structure ms → IsConfigStruct s)
+unfolding structure_of align_of
+object_says k ms h =
+    let members = listed_says k Property.members ms members_list h.flaws [] tt in
+    let s = made_says members.0 (align_for members.0 (align_of ms)) (aligned members.0 (align_of ms) (alignment_or (codes "minimum-alignment") 1 ms no_alignment)) in
+    (s.0, ap (option_and_then (λ all. made all (align_for all (align_of ms)))) members.1 ∙ s.1, λ good. struct_of members.0 (align_of ms) s.0 s.2 (members.2.1 good))
+
+structure_class : (class : Place) → admits_class places.StructureType class ≡ true → class ≡ places.Structure
 unfolding admits_class
 structure_class places.Structure a = refl
 structure_class _ a = absurd (false≢true a)
 
-structure_said : (k : Known) (d : Data) → ContentSound k (At places.StructureType) d → IsSome (option_map_or structure_of (as_object d) (made [] 1))
-unfolding itself_of form_of is_position
-structure_said k d h =
+type_structure : (k : Known) (d : Data) → ContentSound k (At places.StructureType) d → Says (option_map_or structure_of (as_object d) (made [] 1)) (λ s. IsWithin (At places.StructureType) d → IsConfigStruct s)
+unfolding itself_of form_of is_position inside
+type_structure k d h =
     let o = object_at k places.StructureType d h refl in
     let t = type_sound k places.StructureType o.ms refl o.sound in
-    let rows = subst (λ p. RowsSound (inside t.class o.ms k) p o.ms) (structure_class t.class t.may_stand) t.rows in
-    subst (λ x. IsSome (option_map_or structure_of (as_object x) (made [] 1))) (sym o.is) (structure_object_said (inside t.class o.ms k) o.ms rows)
+    let same = structure_class t.class t.may_stand in
+    let s = object_says k o.ms (subst (λ p. RowsSound (inside p o.ms k) p o.ms) same t.rows) in (
+      s.0,
+      ap (λ x. option_map_or structure_of (as_object x) (made [] 1)) o.is ∙ s.1,
+      λ good. s.2 (object_within places.StructureType places.Structure o.ms (class_place places.StructureType o.ms places.Structure refl (t.is ∙ ap Some same)) (subst (λ x. IsWithin (At places.StructureType) x) o.is good)),
+    )
 
-pub structure_there : (k : Known) (around : Place) (name : List ℕ) (ms : Members) → Leads around name (At places.StructureType) → RowsSound k around ms → IsSome (structure name ms)
-unfolding structure object_in
-structure_there k around name ms leads h =
-    by_found (λ (o : Option Data). IsSome (option_map_or structure_of (option_and_then as_object o) (made [] 1))) (optional name ms)
-    (λ f. structure_made [] 1 no_alignment) (λ d f. structure_said k d (optional_sound k around name (At places.StructureType) ms d leads h.flaws f).value)
+pub structure_says : (k : Known) {b : Bool} {place : Place} {name : List ℕ} → Property b place name (At places.StructureType) → (ms : Members) → member_flaws k place ms ≡ [] → Says (structure name ms) (λ s. AreWithin place ms → IsConfigStruct s)
+unfolding structure object_named
+structure_says k {place = place} {name = name} property ms f =
+    by_found (λ (o : Option Data). Says (option_map_or structure_of (option_and_then as_object o) (made [] 1)) (λ s. AreWithin place ms → IsConfigStruct s)) (optional name ms)
+    (λ is. let s = made_says [] 1 no_alignment in (s.0, s.1, λ good. struct_of [] 1 s.0 s.2 no_members_allowed))
+    (λ d is. let s = type_structure k d (optional_sound k place name (At places.StructureType) ms d (leads property) f is).value in (s.0, s.1, λ good. s.2 (optional_within property ms d good is)))
 
-pub extras_there : (k : Known) (around : Place) (name : List ℕ) (ms : Members) → Leads around name (At places.ExtraMembers) → RowsSound k around ms → IsSome (extra_members name ms)
-unfolding extra_members
-extras_there k around name ms leads h =
-    then_there (λ members. made members 1) (listed name ms) (listed_there k around places.ExtraMembers name ms leads extras_list h) (λ members. structure_made members 1 no_alignment)
+pub record AreExtras (s : StructType) : Type 0 where
+  pub members : AreConfigMembers s.members
+  pub align : s.min_align ≡ 1
+  pub no_own_name : All (λ name. list_any (bytes_eq name) own_names ≡ false) (names_in (shown_members 0 s.members))
+
+pub extras_says : (k : Known) (ms : Members) → member_flaws k places.StreamType ms ≡ [] → Says (extra_members (codes "packet-context-field-type-extra-members") ms) (λ s. AreWithin places.StreamType ms → AreExtras s)
+unfolding extra_members names_beside
+extras_says k ms f =
+    let members = listed_says k Property.extras ms extras_list f own_names (refl, (refl, (refl, (refl, (refl, (refl, tt)))))) in
+    let s = made_says members.0 1 no_alignment in
+    let all = s.2.0 in (
+      s.0,
+      ap (option_and_then (λ all. made all 1)) members.1 ∙ s.1,
+      λ good. record {
+        members = subst (λ l. AreConfigMembers l) (sym all) (members.2.1 good);
+        align = s.2.1;
+        no_own_name = subst (λ l. All (λ name. list_any (bytes_eq name) own_names ≡ false) (names_in (shown_members 0 l))) (sym all) (All-from_recursion (λ name. list_any (bytes_eq name) own_names ≡ false) (shown_of members.0) members.2.0);
+      },
+    )

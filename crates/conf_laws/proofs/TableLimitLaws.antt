@@ -1,63 +1,20 @@
 -- Each limit that the walk over a configuration tells of is one that it passes by the table.
-use Rattle.std.proofs.Common.{◌≡◌, ◌⊎◌, ◌*◌, ◌≤◌, ◌<◌, ℕ, zero, suc, Bool, true, false, not, cond, List, [], ◌∷◌, length, Option, Some, None, inl, inr, refl, sym, ap, subst, ◌∙◌, arith, ◌++◌, ◌%◌, ◌==◌, ◌&&◌, map, Contains, is_some, Err, codes, unwrap_or, nat_le, nat_eq}
-use Rattle.conf_laws.proofs.Agreement.{ItemParts, item_found}
+use Rattle.std.proofs.Common.{◌≡◌, ◌⊎◌, ◌↔◌, ◌*◌, ◌/◌, ◌≤◌, ◌<◌, ℕ, zero, suc, Bool, true, false, not, cond, List, [], ◌∷◌, length, Option, Some, None, inl, inr, refl, sym, ap, subst, ◌∙◌, arith, ◌++◌, ◌%◌, ◌==◌, ◌&&◌, map, Contains, is_some, Err, codes, unwrap_or, nat_le, nat_eq}
+use Rattle.conf_laws.proofs.Agreement.{IsFrom, from_start, from_next, item_here}
 use Rattle.conf_laws.proofs.Readings.{some_same, of_element, in_array, by_found, by_test}
-use Rattle.conf_laws.proofs.TableFlawLaws.{static_told, seen_and, member_there, refused_among}
-use Rattle.conf_laws.proofs.ValueFlawLaws.{none_there}
-use Rattle.conf_laws.proofs.Words.{Parts, IsArray, HasElement, Nest, product, HasTooManyElements, PassesAt, IsLongText, IsNoPowerUpTo, PassesBy, PassesLimitOf, entries_of, content_under, Place, Content, Entries, Keys, class_of, told_by, times, at_least_one, elements, within_limit, bytes_fit, divides, power_fits, is_outermost, arrays_fit, count_of, at_most, ranges_of, ranges_fit, place_fits, fits, is_label, key_fits, inner_limits, item_limits, member_limits, configuration_limits, natural_in, place_of_properties, item_content, is_static_array, Flaw, key, index, here, within, HasMember, refusal, Limit, as_natural, Data, object, Members, string, array, Items, no_items, item, no_members, member, items_len, get_member, nat_tests, mul-one, one-le-mul, mul-mod_right, leb-true, leb-false, eqb-false, and_cases, or_parts, All-nil, All-cons, All-map, All-append, All-weaker, All-contains, mul-le, cond_some, option_map_or, All}
+use Rattle.conf_laws.proofs.TableFlawLaws.{static_told, member_there, refused_among}
+use Rattle.conf_laws.proofs.ValueFlawLaws.{none_there, divided}
+use Rattle.conf_laws.proofs.Words.{Parts, IsArray, HasElement, Nest, product, HasTooManyElements, PassesAt, IsLongText, IsNoPowerUpTo, PassesBy, PassesLimitOf, entries_of, content_under, Place, Content, Entries, Keys, class_of, told_by, times, at_least_one, elements, elements_in_array, within_limit, bytes_fit, divides, power_fits, is_outermost, arrays_fit, count_of, at_most, ranges_of, ranges_fit, place_fits, fits, is_label, key_fits, inner_limits, item_limits, member_limits, configuration_limits, natural_in, place_of_properties, item_content, is_static_array, Flaw, key, index, here, within, HasMember, refusal, Limit, as_natural, Data, object, Members, string, array, Items, no_items, item, no_members, member, get_member, nat_tests, mul-one, one-le-mul, mul-mod_right, leb-true, leb-false, lt-leb, ne_eqb, or_from, and_left, and_right, true≢false, eqb-false, and_cases, or_parts, All-nil, All-cons, All-map, All-append, All-weaker, All-contains, mul-le, option_map_or, All}
 use Rattle.conf_laws.proofs.Words.places
 use Rattle.conf_laws.proofs.Words.contents
 use Rattle.conf_laws.proofs.Words.keys
 
--- the elements of a value are counted as one, or it is an array
-array_or_one : (levels : ℕ) (d : Data) → (elements levels d ≡ Some 1) ⊎ ((ms : Members) × (d ≡ object ms) × (is_static_array (class_of ms) ≡ true))
-array_or_one levels (object ms) = go (is_static_array (class_of ms)) refl levels
-  where
-    go : (b : Bool) → is_static_array (class_of ms) ≡ b → (l : ℕ) → (elements l (object ms) ≡ Some 1) ⊎ ((ns : Members) × (object ms ≡ object ns) × (is_static_array (class_of ns) ≡ true))
-    go true is l = inr (ms, refl, is)
-    go false is zero = inl (rw is refl)
-    go false is (suc l) = inl (rw is refl)
-array_or_one levels _ = inl refl
+-- ---- static arrays in one another
 
 -- each array counts as one at least
 some_count : (o : Option ℕ) → (n : ℕ) × (at_least_one o ≡ Some n) × (1 ≤ n)
 some_count None = (1, refl, omega arith)
 some_count (Some n) = (cond (nat_eq n 0) 1 n, refl, grind (arith, nat_tests))
-
-count_of_one : (ms : Members) (n : ℕ) → at_least_one (natural_in (codes "length") ms) ≡ Some n → 1 ≤ n
-count_of_one ms n e =
-    let some = some_count (natural_in (codes "length") ms) in
-    subst (λ m. 1 ≤ m) (some_same (at_least_one (natural_in (codes "length") ms)) some.0 n some.1 e) some.2
-
--- the product of two counts, where it is not too large
-pub record Times (a b : Option ℕ) (m : ℕ) : Type 0 where
-  pub first : ℕ
-  pub second : ℕ
-  pub one : a ≡ Some first
-  pub two : b ≡ Some second
-  pub is : m ≡ first * second
-  pub most : m ≤ 1048576
-
-pub times_told : (a b : Option ℕ) (m : ℕ) → times a b ≡ Some m → Times a b m
-times_told (Some n) (Some k) m e =
-    let p = cond_some (nat_le (n * k) 1048576) (n * k) m e in
-    record { first = n; second = k; one = refl; two = refl; is = sym p.1; most = subst (λ x. x ≤ 1048576) p.1 (leb-true (n * k) 1048576 p.0) }
-times_told _ _ m e = absurd cc
-
--- what is counted stands in one another
-module _ (ms : Members) (static : is_static_array (class_of ms) ≡ true) where
-  is_array : (n : ℕ) → at_least_one (natural_in (codes "length") ms) ≡ Some n → IsArray ms n
-  is_array n count = (static_told (class_of ms) (ap not static), count)
-
-  no_levels : elements 0 (object ms) ≡ None
-  no_levels = rw static refl
-
-  counted : (levels : ℕ) → elements (suc levels) (object ms) ≡ of_element levels (at_least_one (natural_in (codes "length") ms)) (get_member (codes "element-field-type") ms)
-  counted levels = rw static (in_array levels (at_least_one (natural_in (codes "length") ms)) ms)
-
--- these stand in one another, and have so many elements in all
-abbrev Counts : Data → ℕ → Type 0
-Counts d m = (ns : List ℕ) × Nest d ns × (product ns ≡ m)
 
 abbrev IsTooDeep : ℕ → Data → Type 0
 IsTooDeep levels d = (ns : List ℕ) × Nest d ns × (levels < length ns)
@@ -65,122 +22,113 @@ IsTooDeep levels d = (ns : List ℕ) × Nest d ns × (levels < length ns)
 abbrev AreTooMany : Data → Type 0
 AreTooMany d = (ms : Members) × (element : Data) × (ns : List ℕ) × (d ≡ object ms) × HasElement ms element × Nest d ns × (1048576 < product ns)
 
--- what is counted stands in one another, and what is not is too much
+-- these stand in one another, with so many elements in all, and no more do
+record Counted (levels : ℕ) (d : Data) (m : ℕ) : Type 0 where
+  nest : (ns : List ℕ) × Nest d ns × (product ns ≡ m)
+  some : 1 ≤ m
+  most : (e : Data) (ns : List ℕ) → Nest e ns → e ≡ d → (product ns ≤ m) × (length ns ≤ levels)
+  few : (ms : Members) (element : Data) → d ≡ object ms → HasElement ms element → m ≤ 1048576
+
+-- what is not counted is too much
 abbrev Measured : ℕ → Data → Option ℕ → Type 0
 Measured levels d None = IsTooDeep levels d ⊎ AreTooMany d
-Measured levels d (Some m) = Counts d m
+Measured levels d (Some m) = Counted levels d m
+
+single : (levels : ℕ) (d : Data) → ((ms : Members) (n : ℕ) → d ≡ object ms → ¬ IsArray ms n) → Counted levels d 1
+single levels d none = record { nest = ([], Nest.none d, refl); some = omega arith; most = most; few = λ ms element is has. omega arith }
+  where
+    most : (e : Data) (ns : List ℕ) → Nest e ns → e ≡ d → (product ns ≤ 1) × (length ns ≤ levels)
+    most e ns (Nest.none x) same = (omega arith, omega arith)
+    most e ns (Nest.innermost ms n is) same = absurd (none ms n (sym same) is)
+    most e ns (Nest.around_others ms n element rest is has nest) same = absurd (none ms n (sym same) is)
+
+no_array : (ms ns : Members) (n : ℕ) → is_static_array (class_of ms) ≡ false → object ms ≡ object ns → ¬ IsArray ns n
+no_array ms ns n fails same is = let members : ms ≡ ns = cc in true≢false (sym (ap is_static_array is.0) ∙ ap (λ x. is_static_array (class_of x)) (sym members) ∙ fails)
+
+-- an array of so many
+module _ (ms : Members) (n : ℕ) (is_one : IsArray ms n) (some : 1 ≤ n) (levels : ℕ) where
+  same_count : (ns : Members) (m : ℕ) → IsArray ns m → object ns ≡ object ms → m ≡ n
+  same_count ns m is same = let members : ns ≡ ms = cc in some_same (at_least_one (natural_in (codes "length") ms)) m n (ap (λ x. at_least_one (natural_in (codes "length") x)) (sym members) ∙ is.1) is_one.1
+
+  alone : get_member (codes "element-field-type") ms ≡ None → Counted (suc levels) (object ms) n
+  alone none = record { nest = (n ∷ [], Nest.innermost ms n is_one, mul-one n); some = some; most = most; few = λ ns element same has. absurd (let members : ms ≡ ns = cc in cc) }
+    where
+      most : (e : Data) (ns : List ℕ) → Nest e ns → e ≡ object ms → (product ns ≤ n) × (length ns ≤ suc levels)
+      most e ns (Nest.none x) same = (some, omega arith)
+      most e ns (Nest.innermost os m is) same = (omega (arith, mul-one m, same_count os m is same), omega arith)
+      most e ns (Nest.around_others os m element rest is has nest) same = absurd (let members : os ≡ ms = cc in cc)
+
+  around : (element : Data) (k : ℕ) → HasElement ms element → Counted levels element k → n * k ≤ 1048576 → Counted (suc levels) (object ms) (n * k)
+  around element k has inner fits = record {
+    nest = (n ∷ inner.nest.0, Nest.around_others ms n element inner.nest.0 is_one has inner.nest.1, ap (λ x. n * x) inner.nest.2);
+    some = one-le-mul some inner.some;
+    most = most;
+    few = λ ns e same there. fits;
+  }
+    where
+      most : (e : Data) (ns : List ℕ) → Nest e ns → e ≡ object ms → (product ns ≤ n * k) × (length ns ≤ suc levels)
+      most e ns (Nest.none x) same = (one-le-mul some inner.some, omega arith)
+      most e ns (Nest.innermost os m is) same = (mul-le m 1 n k (let count = same_count os m is same in omega (arith, count)) inner.some, omega arith)
+      most e ns (Nest.around_others os m x rest is there nest) same =
+          let members : os ≡ ms = cc in
+          let within = inner.most x rest nest (some_same (get_member (codes "element-field-type") ms) x element (subst (λ y. HasElement y x) members there) has) in
+          let short = within.1 in
+          (mul-le m (product rest) n k (let count = same_count os m is same in omega (arith, count)) within.0, omega (arith, short))
 
 larger : (n m : ℕ) → 1 ≤ n → m ≤ n * m
 larger n m some = let more : 1 * m ≤ n * m = mul-le 1 m n m some (omega arith) in omega (arith, more)
 
 array_measured : (levels : ℕ) (ms : Members) (n : ℕ) → IsArray ms n → 1 ≤ n → ((d : Data) → Measured levels d (elements levels d)) → (o : Option Data) → get_member (codes "element-field-type") ms ≡ o → Measured (suc levels) (object ms) (of_element levels (Some n) o)
-array_measured levels ms n is_one some inner None has = (n ∷ [], Nest.innermost ms n is_one, mul-one n)
+array_measured levels ms n is_one some inner None has = alone ms n is_one some levels has
 array_measured levels ms n is_one some inner (Some element) has = go (elements levels element) (inner element)
   where
     go : (o : Option ℕ) → Measured levels element o → Measured (suc levels) (object ms) (times (Some n) o)
     go None (inl (ns, nest, deep)) = inl (n ∷ ns, Nest.around_others ms n element ns is_one has nest, omega (arith, deep))
     go None (inr (os, other, ns, same, has_too, nest, many)) = let more = larger n (product ns) some in inr (ms, element, n ∷ ns, refl, has, Nest.around_others ms n element ns is_one has nest, omega (arith, many, more))
-    go (Some k) (ns, nest, is) =
-        let all = Nest.around_others ms n element ns is_one has nest in
-        by_test (λ (b : Bool). Measured (suc levels) (object ms) (cond b (Some (n * k)) None)) (nat_le (n * k) 1048576)
-        (λ fits. (n ∷ ns, all, ap (λ x. n * x) is)) (λ large. inr (ms, element, n ∷ ns, refl, has, all, subst (λ x. 1048576 < n * x) (sym is) (leb-false (n * k) 1048576 large)))
+    go (Some k) counted =
+        by_test (λ (b : Bool). Measured (suc levels) (object ms) (cond b (Some (n * k)) None)) (nat_le (n * k) 1048576) (λ fits. around ms n is_one some levels element k has counted (leb-true (n * k) 1048576 fits))
+        (λ large. inr (ms, element, n ∷ counted.nest.0, refl, has, Nest.around_others ms n element counted.nest.0 is_one has counted.nest.1, subst (λ x. 1048576 < n * x) (sym counted.nest.2) (leb-false (n * k) 1048576 large)))
 
 measured : (levels : ℕ) (d : Data) → Measured levels d (elements levels d)
-measured zero d = elim (array_or_one 0 d) [
-  | inl one ↦ subst (Measured 0 d) (sym one) ([], Nest.none d, refl)
-  | inr (ms, is, static) ↦
-      let some = some_count (natural_in (codes "length") ms) in
-      subst (λ x. Measured 0 x (elements 0 x)) (sym is) (subst (Measured 0 (object ms)) (sym (no_levels ms static)) (inl (some.0 ∷ [], Nest.innermost ms some.0 (is_array ms static some.0 some.1), omega arith)))
-]
-measured (suc levels) d = elim (array_or_one (suc levels) d) [
-  | inl one ↦ subst (Measured (suc levels) d) (sym one) ([], Nest.none d, refl)
-  | inr (ms, is, static) ↦
-      let some = some_count (natural_in (codes "length") ms) in
-      let counts = counted ms static levels ∙ ap (λ c. of_element levels c (get_member (codes "element-field-type") ms)) some.1 in
-      subst (λ x. Measured (suc levels) x (elements (suc levels) x)) (sym is) (subst (Measured (suc levels) (object ms)) (sym counts) (array_measured levels ms some.0 (is_array ms static some.0 some.1) some.2 (measured levels) _ refl))
-]
+measured zero (object ms) =
+    by_test (λ (b : Bool). Measured 0 (object ms) (cond b None (Some 1))) (is_static_array (class_of ms))
+    (λ is. let some = some_count (natural_in (codes "length") ms) in inl (some.0 ∷ [], Nest.innermost ms some.0 (static_told (class_of ms) (ap not is), some.1), omega arith)) (λ is. single 0 (object ms) (λ ns n. no_array ms ns n is))
+measured (suc levels) (object ms) =
+    let count = at_least_one (natural_in (codes "length") ms) in
+    by_test (λ (b : Bool). Measured (suc levels) (object ms) (cond b (elements_in_array levels count ms) (Some 1))) (is_static_array (class_of ms)) (λ is.
+    let some = some_count (natural_in (codes "length") ms) in
+    subst (Measured (suc levels) (object ms)) (sym (in_array levels count ms ∙ ap (λ c. of_element levels c (get_member (codes "element-field-type") ms)) some.1))
+    (array_measured levels ms some.0 (static_told (class_of ms) (ap not is), some.1) some.2 (measured levels) _ refl)) (λ is. single (suc levels) (object ms) (λ ns n. no_array ms ns n is))
+measured levels d = single levels d (λ ms n is. absurd cc)
 
-pub elements_told : (d : Data) → elements 8 d ≡ None → HasTooManyElements d
+elements_told : (d : Data) → elements 8 d ≡ None → HasTooManyElements d
 elements_told d e = elim (subst (Measured 8 d) e (measured 8 d)) [
   | inl (ns, nest, deep) ↦ HasTooManyElements.too_deep ns nest deep
   | inr (ms, element, ns, is, has, nest, many) ↦ HasTooManyElements.too_many ms element ns is has nest many
 ]
 
--- ---- what stands in one another too deep, or is too much, is not counted
-
-nest_some : (d : Data) (ns : List ℕ) → Nest d ns → 1 ≤ product ns
-nest_some d ns (Nest.none e) = omega arith
-nest_some d ns (Nest.innermost ms n is_one) = one-le-mul (count_of_one ms n is_one.1) (omega arith)
-nest_some d ns (Nest.around_others ms n element rest is_one has nest) = one-le-mul (count_of_one ms n is_one.1) (nest_some element rest nest)
-
--- what nests so is counted as so much at least, or is not counted
-abbrev Covers : Option ℕ → ℕ → ℕ → ℕ → Type 0
-Covers counted levels most length = (counted ≡ None) ⊎ ((m : ℕ) × (counted ≡ Some m) × (most ≤ m) × (length ≤ levels))
-
-multiplied : (n : ℕ) (o : Option ℕ) (p levels l : ℕ) → Covers o levels p l → Covers (times (Some n) o) (suc levels) (n * p) (suc l)
-multiplied n o p levels l (inl none) = inl (ap (times (Some n)) none)
-multiplied n o p levels l (inr (k, is, le, short)) = subst (λ x. Covers (times (Some n) x) (suc levels) (n * p) (suc l)) (sym is) (go (nat_le (n * k) 1048576))
-  where
-    go : (b : Bool) → Covers (cond b (Some (n * k)) None) (suc levels) (n * p) (suc l)
-    go true = inr (n * k, refl, mul-le n p n k (omega arith) le, omega (arith, short))
-    go false = inl refl
-
-covered_one : (levels : ℕ) (d : Data) → Covers (elements levels d) levels 1 0
-covered_one levels d =
-    by_found (λ (o : Option ℕ). Covers (elements levels d) levels 1 0) (elements levels d) (λ is. inl is) (λ m is. let counts = subst (Measured levels d) is (measured levels d) in inr (m, is, subst (λ x. 1 ≤ x) counts.2 (nest_some d counts.0 counts.1), omega arith))
-
-module _ (ms : Members) (n : ℕ) (is_one : IsArray ms n) where
-  static : is_static_array (class_of ms) ≡ true
-  static = ap is_static_array is_one.0
-
-  counted_so : (levels : ℕ) → elements (suc levels) (object ms) ≡ of_element levels (Some n) (get_member (codes "element-field-type") ms)
-  counted_so levels = counted ms static levels ∙ ap (λ c. of_element levels c (get_member (codes "element-field-type") ms)) is_one.1
-
-covered : (d : Data) (ns : List ℕ) → Nest d ns → (levels : ℕ) → Covers (elements levels d) levels (product ns) (length ns)
-covered d ns (Nest.none e) levels = covered_one levels e
-covered d ns (Nest.innermost ms n is_one) zero = inl (no_levels ms (static ms n is_one))
-covered d ns (Nest.innermost ms n is_one) (suc levels) = subst (λ o. Covers o (suc levels) (n * 1) 1) (sym (counted_so ms n is_one levels)) (go (get_member (codes "element-field-type") ms))
-  where
-    go : (o : Option Data) → Covers (of_element levels (Some n) o) (suc levels) (n * 1) 1
-    go None = inr (n, refl, omega (arith, mul-one n), omega arith)
-    go (Some element) = multiplied n (elements levels element) 1 levels 0 (covered_one levels element)
-covered d ns (Nest.around_others ms n element rest is_one has nest) zero = inl (no_levels ms (static ms n is_one))
-covered d ns (Nest.around_others ms n element rest is_one has nest) (suc levels) =
-    subst (λ o. Covers o (suc levels) (n * product rest) (suc (length rest))) (sym (counted_so ms n is_one levels ∙ ap (of_element levels (Some n)) has)) (multiplied n (elements levels element) (product rest) levels (length rest) (covered element rest nest levels))
-
--- an array of elements that are counted has not too many
-bounded : (levels : ℕ) (ms : Members) (element : Data) (m : ℕ) → HasElement ms element → elements (suc levels) (object ms) ≡ Some m → m ≤ 1048576
-bounded levels ms element m has e = elim (array_or_one (suc levels) (object ms)) [
-  | inl one ↦ let same : 1 ≡ m = some_same (elements (suc levels) (object ms)) 1 m one e in omega (arith, same)
-  | inr (ns, is, held) ↦
-      let same : ms ≡ ns = cc in
-      let fits : is_static_array (class_of ms) ≡ true = ap (λ x. is_static_array (class_of x)) same ∙ held in
-      (times_told (at_least_one (natural_in (codes "length") ms)) (elements levels element) m (ap (of_element levels (at_least_one (natural_in (codes "length") ms))) (sym has) ∙ sym (counted ms fits levels) ∙ e)).most
-]
+counted_few : (d : Data) (m : ℕ) → Counted 8 d m → ¬ HasTooManyElements d
+counted_few d m counted (HasTooManyElements.too_deep ns nest deep) = let short = (counted.most d ns nest refl).1 in omega (arith, short, deep)
+counted_few d m counted (HasTooManyElements.too_many ms element ns is has nest many) = let below = (counted.most d ns nest refl).0 in let few = counted.few ms element is has in omega (arith, below, few, many)
 
 pub not_counted : (d : Data) → HasTooManyElements d → elements 8 d ≡ None
-not_counted d (HasTooManyElements.too_deep ns nest deep) = elim (covered d ns nest 8) [
-  | inl none ↦ none
-  | inr (m, is, le, short) ↦ absurd (omega (arith, short, deep))
-]
-not_counted d (HasTooManyElements.too_many ms element ns is has nest many) = elim (covered d ns nest 8) [
-  | inl none ↦ none
-  | inr (m, counted, le, short) ↦ let most = bounded 7 ms element m has (ap (elements 8) (sym is) ∙ counted) in absurd (omega (arith, le, most, many))
-]
+not_counted d many =
+    by_found (λ (o : Option ℕ). Measured 8 d o → o ≡ None) (elements 8 d) (λ is m. refl) (λ m is counted. absurd (counted_few d m counted many)) (measured 8 d)
 
 -- ---- a value by itself
 
-long_told : (most : ℕ) (d : Data) → bytes_fit most d ≡ false → IsLongText most d
-long_told most (string s) e = (s, refl, leb-false (length s) most e)
-long_told most _ e = absurd cc
+long_fails : (most : ℕ) (d : Data) → (bytes_fit most d ≡ false) ↔ IsLongText most d
+long_fails most (string s) = (λ e. (s, refl, leb-false (length s) most e), λ (t, is, long). let same : s ≡ t = cc in lt-leb (length s) most (subst (λ x. most < length x) (sym same) long))
+long_fails most _ = (λ e. absurd cc, λ (t, is, long). absurd cc)
 
-power_told : (high : ℕ) (d : Data) → power_fits high d ≡ false → IsNoPowerUpTo high d
+power_fails : (high : ℕ) (d : Data) → (power_fits high d ≡ false) ↔ IsNoPowerUpTo high d
 unfolding power_fits
-power_told high d e =
-    by_found (λ (o : Option ℕ). divides high o ≡ false → IsNoPowerUpTo high d) (as_natural d)
-    (λ is f. absurd cc) (λ n is f.
-    let parts = or_parts (nat_eq n 0) (high % n == 0) f in
-    (n, is, eqb-false n 0 parts.0, λ q product. eqb-false (high % n) 0 parts.1 (ap (λ h. h % n) (sym product) ∙ mul-mod_right n q))) e
+power_fails high d = (
+  by_found (λ (o : Option ℕ). divides high o ≡ false → IsNoPowerUpTo high d) (as_natural d) (λ is f. absurd cc) (λ n is f.
+      let parts = or_parts (nat_eq n 0) (high % n == 0) f in
+      (n, is, eqb-false n 0 parts.0, λ q product. eqb-false (high % n) 0 parts.1 (ap (λ h. h % n) (sym product) ∙ mul-mod_right n q))),
+  λ (n, is, some, none). ap (divides high) is ∙ or_from (nat_eq n 0) (high % n == 0) (ne_eqb n 0 some) (ne_eqb (high % n) 0 (λ e. none (high / n) (divided high n (omega (arith, some)) e))),
+)
 
 module _ (place : Place) (d : Data) where
   entries_told : at_most (entries_of place) (count_of d) ≡ false → PassesAt place d
@@ -206,29 +154,40 @@ at_told place d e = elim (and_cases (arrays_fit place d) (at_most (entries_of pl
   | inr rest ↦ elim (and_cases (at_most (entries_of place) (count_of d)) (ranges_fit place d) rest) [ inl entries ↦ entries_told place d entries | inr ranges ↦ ranges_told place d ranges ]
 ]
 
-by_told : (content : Content) (d : Data) → fits content d ≡ false → PassesBy content d
+at_fails : (place : Place) (d : Data) → PassesAt place d → place_fits place d ≡ false
+unfolding place_fits ranges_fit arrays_fit
+at_fails place d (PassesAt.too_many_entries entries most is number_is more) =
+    let counted : at_most (Some entries) (count_of d) ≡ nat_le (count_of d) most = rw number_is refl in
+    and_right (arrays_fit place d) _ (and_left (at_most (entries_of place) (count_of d)) (ranges_fit place d) (ap (λ o. at_most o (count_of d)) is ∙ counted ∙ lt-leb (count_of d) most more))
+at_fails place d (PassesAt.too_many_ranges is more) = and_right (arrays_fit place d) _ (and_right (at_most (entries_of place) (count_of d)) (ranges_fit place d) (subst (λ p. ranges_fit p d ≡ false) (sym is) (lt-leb (ranges_of d) 1024 more)))
+at_fails place d (PassesAt.too_many_elements outermost many) = and_left (arrays_fit place d) _ (rw outermost (ap is_some (not_counted d many)))
+
+pub by_fails : (content : Content) (d : Data) → (fits content d ≡ false) ↔ PassesBy content d
 unfolding fits
-by_told (contents.Text most) d e = long_told most d e
-by_told (contents.WholeOrText low high most) d e = long_told most d e
-by_told (contents.PowerOfTwo high) d e = power_told high d e
-by_told (contents.At place) d e = at_told place d e
-by_told _ d e = absurd cc
+by_fails (contents.Text most) d = long_fails most d
+by_fails (contents.WholeOrText low high most) d = long_fails most d
+by_fails (contents.PowerOfTwo high) d = power_fails high d
+by_fails (contents.At place) d = (at_told place d, at_fails place d)
+by_fails _ d = (λ e. absurd cc, λ passed. absurd passed)
 
 -- ---- labels
+
+abbrev pub IsLongLabel : Place → List ℕ → Type 0
+IsLongLabel place name = (entries : Entries) × (entries_of place ≡ Some entries) × (entries.keys ≡ keys.Label) × (4096 < length name)
 
 label_is : (by : Keys) → is_label by ≡ true → by ≡ keys.Label
 label_is keys.Label e = refl
 label_is _ e = absurd cc
 
-label_told : (o : Option Entries) → option_map_or (λ x. is_label x.keys) o false ≡ true → (entries : Entries) × (o ≡ Some entries) × (entries.keys ≡ keys.Label)
-label_told None e = absurd cc
-label_told (Some entries) e = (entries, refl, label_is entries.keys e)
-
-long_label_told : (place : Place) (name : List ℕ) → key_fits place name ≡ false → (entries : Entries) × (entries_of place ≡ Some entries) × (entries.keys ≡ keys.Label) × (4096 < length name)
+pub label_fails : (place : Place) (name : List ℕ) → (key_fits place name ≡ false) ↔ IsLongLabel place name
 unfolding key_fits
-long_label_told place name e =
-    by_test (λ (b : Bool). cond b (nat_le (length name) 4096) true ≡ false → (entries : Entries) × (entries_of place ≡ Some entries) × (entries.keys ≡ keys.Label) × (4096 < length name)) (option_map_or (λ x. is_label x.keys) (entries_of place) false)
-    (λ is f. let label = label_told (entries_of place) is in (label.0, label.1, label.2, leb-false (length name) 4096 f)) (λ is f. absurd cc) e
+label_fails place name = (
+  by_found (λ (o : Option Entries). cond (option_map_or (λ x. is_label x.keys) o false) (nat_le (length name) 4096) true ≡ false → IsLongLabel place name) (entries_of place) (λ none e. absurd cc) (λ entries is.
+      by_test (λ (b : Bool). cond b (nat_le (length name) 4096) true ≡ false → IsLongLabel place name) (is_label entries.keys) (λ label e. (entries, is, label_is entries.keys label, leb-false (length name) 4096 e)) (λ other e. absurd cc)),
+  λ (entries, is, label, long).
+      let labels : option_map_or (λ x. is_label x.keys) (entries_of place) false ≡ true = ap (λ o. option_map_or (λ x. is_label x.keys) o false) is ∙ rw label refl in
+      rw labels (lt-leb (length name) 4096 long),
+)
 
 -- ---- lists of limits
 
@@ -237,7 +196,11 @@ limit_and P true rest told held = held
 limit_and P false rest told held = All-cons P (here Limit) rest (told refl) held
 
 value_and_held : (content : Content) (d : Data) → All (PassesLimitOf content d) (inner_limits content d) → All (PassesLimitOf content d) (told_by (within_limit (fits content d)) ++ inner_limits content d)
-value_and_held content d held = limit_and (PassesLimitOf content d) (fits content d) (inner_limits content d) (λ e. PassesLimitOf.too_large (by_told content d e)) held
+value_and_held content d held = limit_and (PassesLimitOf content d) (fits content d) (inner_limits content d) (λ e. PassesLimitOf.too_large ((by_fails content d).0 e)) held
+
+-- those of a part, seen from the whole, before others
+seen_and : (P Q : Flaw → Type 0) (seen : Flaw → Flaw) (flaws rest : List Flaw) → ((flaw : Flaw) → P flaw → Q (seen flaw)) → All P flaws → All Q rest → All Q (map seen flaws ++ rest)
+seen_and P Q seen flaws rest holds held others = All-append Q (map seen flaws) rest (All-map Q seen flaws (All-weaker P (λ flaw. Q (seen flaw)) holds flaws held)) others
 
 -- the limits of a member, where those of its value are told
 module _ (place : Place) (all before rest : Members) (name : List ℕ) (d : Data) (parts : Parts all before (member name d rest)) where
@@ -261,21 +224,20 @@ module _ (place : Place) (all before rest : Members) (name : List ℕ) (d : Data
   member_told : ((content : Content) → All (PassesLimitOf content d) (inner_limits content d))
       → All IsPassedThere (told_by (within_limit (key_fits (place_of_properties place all) name)) ++ (told_by (within_limit (fits (unwrap_or (content_under (place_of_properties place all) name) contents.Anything) d)) ++ inner_limits (unwrap_or (content_under (place_of_properties place all) name) contents.Anything) d))
   member_told held =
-      limit_and IsPassedThere (key_fits (place_of_properties place all) name) _ (λ e. let label = long_label_told (place_of_properties place all) name e in PassesLimitOf.long_label name d label.0 there label.1 label.2 label.3)
+      limit_and IsPassedThere (key_fits (place_of_properties place all) name) _ (λ e. let label = (label_fails (place_of_properties place all) name).0 e in PassesLimitOf.long_label name d label.0 there label.1 label.2 label.3)
       (of_member held (content_under (place_of_properties place all) name) refl)
 
 mutual
   inner_told : (d : Data) (content : Content) → All (PassesLimitOf content d) (inner_limits content d)
-  inner_told (array ds) (contents.At place) = items_told ds place ds no_items ItemParts.at_the_first
+  inner_told (array ds) (contents.At place) = items_told ds place ds 0 (from_start ds)
   inner_told (object ms) (contents.At place) = members_told ms place ms no_members Parts.at_the_first
   inner_told _ _ = All-nil _
 
-  items_told : (rest : Items) (place : Place) (all before : Items) → ItemParts all before rest → All (PassesLimitOf (contents.At place) (array all)) (item_limits place (items_len before) rest)
-  items_told no_items place all before parts = All-nil _
-  items_told (item d rest) place all before parts =
-      seen_and (PassesLimitOf (item_content place) d) (PassesLimitOf (contents.At place) (array all)) (within (index (items_len before))) _ _
-      (λ flaw passed. PassesLimitOf.in_item (items_len before) d flaw (item_found all before rest d parts) passed)
-      (value_and_held (item_content place) d (inner_told d (item_content place))) (items_told rest place all (item d before) (ItemParts.behind_item before d rest parts))
+  items_told : (rest : Items) (place : Place) (all : Items) (i : ℕ) → IsFrom all i rest → All (PassesLimitOf (contents.At place) (array all)) (item_limits place i rest)
+  items_told no_items place all i from = All-nil _
+  items_told (item d rest) place all i from =
+      seen_and (PassesLimitOf (item_content place) d) (PassesLimitOf (contents.At place) (array all)) (within (index i)) _ _ (λ flaw passed. PassesLimitOf.in_item i d flaw (item_here all i d rest from) passed)
+      (value_and_held (item_content place) d (inner_told d (item_content place))) (items_told rest place all (suc i) (from_next all i d rest from))
 
   members_told : (rest : Members) (place : Place) (all before : Members) → Parts all before rest → All (PassesLimitOf (contents.At place) (object all)) (member_limits (place_of_properties place all) rest)
   members_told no_members place all before parts = All-nil _

@@ -1,198 +1,360 @@
--- Features that have no flaw say something: each is on or off, or of a type of its own.
--- A resolved configuration that has no flaw says something, and so do its data stream types and their event record types.
-use Rattle.std.proofs.Common.{◌≡◌, ℕ, Bool, true, false, List, Option, Some, is_some, IsSome, option_map, refl, sym, ap, subst, ◌∙◌, [], ◌∷◌, ◌++◌, ◌&&◌, codes, unwrap_or, option_and_then}
-use Rattle.conf_laws.proofs.Structures.{integer_said, structure_there, extras_there}
-use Rattle.conf_laws.proofs.Readings.{some_there, was_so, optional_found, mapped_there, then_there}
-use Rattle.conf_laws.proofs.Sound.{TypeSound, type_sound, unsigned_told, Leads, RowsSound, needed_sound, optional_sound, ObjectSound, ContentSound, object_sound, by_object, held_at, first_entry, needed_object, content_sound}
-use Rattle.conf_laws.proofs.Properties.{Property, leads, needed_by, OwnPlace, is_object, MapPlace, is_map, type_object}
-use Rattle.conf_laws.proofs.Words.{admits_class, rows_of, Place, At, class_of, is_null, all_there, orders_there, Known, inside, natural_in, is_position, shape_of, is_identifier, is_byte, is_unsigned_integer, is_number, is_eight, member_flaws, configuration_flaws, behind, nothing, optional, Data, null, boolean, object, Members, no_members, get_member, member, as_object, false≢true, and_parts, same_Some, number_type, byte_type, feature_of, feature, byte_of, identifier, size, mapped, timestamp, magic_type, header, context, event_header, integer, IntType, environment, event_type, event_types, object_at as object_in, properties, said_behind, word, clock_of, stream_type, stream_types, draft_of_type, draft_of_trace, draft_of_root, draft_of, EnvironmentEntry, is_unsigned_class}
+-- What a configuration says that has no flaw, from its features to the trace around them; and that what it says is what the rules allow by
+-- itself, where it also passes no limit and its names are in order.
+use Rattle.std.proofs.Common.{◌≡◌, ℕ, ◌&&◌, Bool, true, false, cond, List, Option, Some, None, is_some, IsSome, refl, sym, ap, subst, ◌∙◌, append_assoc, pos, ◌<◌, ◌^◌, [], ◌∷◌, ◌++◌, Ok, Err, arith, nat_le, codes, option_map, option_and_then, unwrap_or}
+use Rattle.conf_laws.proofs.AllowedMaps.{IsMade, integer_says, config_name, AreAllowed, AreUnder, none_under, last_under, map_allowed, AreClocks, clocks_allowed, IsEnvironment, environment_allowed}
+use Rattle.conf_laws.proofs.Structures.{AreExtras, structure_says, extras_says}
+use Rattle.conf_laws.proofs.Numbers.{number_told, natural_is_in}
+use Rattle.conf_laws.proofs.Properties.{IsWithin, AreWithin, object_within, optional_within, entry_within, all_within, flaws_in, names_of, Property, leads, needed_by, OwnPlace, is_object, is_own, MapPlace, is_map, type_object}
+use Rattle.conf_laws.proofs.Readings.{Says, mapped_says, same_natural, was_so, object_there, optional_found, by_found}
+use Rattle.conf_laws.proofs.Sound.{TypeSound, type_sound, unsigned_told, Leads, RowsSound, needed_sound, optional_sound, ObjectSound, ContentSound, object_sound, content_sound, held_at, first_entry, needed_object}
+use Rattle.conf_laws.proofs.Words.{admits_class, Place, At, Level, class_of, is_null, Known, inside, behind, nothing, members_or_none, natural_in, is_position, shape_of, is_identifier, is_byte, is_unsigned_integer, is_number, is_eight, at_most, entries_of, key_of, key_by, itself_of, leaf_of, level, whole_from, member_flaws, configuration_flaws, optional, as_natural, Data, null, boolean, object, string, Members, no_members, members_len, get_member, member, as_object, here, NoSuchAlias, false≢true, and_parts, same_Some, append-nil, option_map_or, alignment_of, alignment, number_type, magic_type, byte_type, feature_of, feature, byte_of, identifier, size, mapped, timestamp, header, context, event_header, integer, size_of, default_align, integer_align as align_of, natural, object_at as object_named, properties, said_behind, word, OnlyIf, IsPlainUnsigned, ContextFeatures, EventFeatures, HeaderFeatures, IntType, environment, level_of, event_type, event_types, clock_of, stream_type, stream_types, draft_with, draft_of_type, draft_of_trace, draft_of_root, draft_of, IsConfigStruct, IsConfigName, Config, EnvironmentEntry, EventType, StreamType, is_unsigned_class}
 use Rattle.conf_laws.proofs.Words.places
 
+-- ---- unsigned integers
+
 -- a position where an unsigned integer alone may stand
-pub record IsFeature (place : Place) : Type 0 where
-  pub position : is_position place ≡ true
-  pub class : (c : Place) → admits_class place c ≡ true → c ≡ places.UnsignedInteger
-
-only_unsigned : (c : Place) → is_unsigned_class c ≡ true → c ≡ places.UnsignedInteger
-only_unsigned places.UnsignedInteger a = refl
-only_unsigned _ a = absurd (false≢true a)
-
 data FeaturePlace : Place → Type 0 where
   any : FeaturePlace places.Feature
   size_of_packet : FeaturePlace places.SizeFeature
   magic_number : FeaturePlace places.MagicFeature
 
-is_feature : {place : Place} → FeaturePlace place → IsFeature place
+only_unsigned : (c : Place) → is_unsigned_class c ≡ true → c ≡ places.UnsignedInteger
+only_unsigned places.UnsignedInteger a = refl
+only_unsigned _ a = absurd (false≢true a)
+
+position_of : {place : Place} → FeaturePlace place → (is_position place ≡ true) × ((c : Place) → admits_class place c ≡ true → c ≡ places.UnsignedInteger)
 unfolding is_position admits_class
-is_feature FeaturePlace.any = record { position = refl; class = only_unsigned }
-is_feature _ = record { position = refl; class = only_unsigned }
+position_of FeaturePlace.any = (refl, only_unsigned)
+position_of _ = (refl, only_unsigned)
 
-unsigned_said : (k : Known) (place : Place) (ms : Members) (t : TypeSound k place ms) → t.class ≡ places.UnsignedInteger → IsSome (integer false ms)
-unsigned_said k place ms t is = integer_said (inside t.class ms k) places.UnsignedInteger false ms Property.unsigned_size (subst (λ p. RowsSound (inside t.class ms k) p ms) is t.rows)
+unsigned_says : (k : Known) (place : Place) (ms : Members) (t : TypeSound k place ms) → t.class ≡ places.UnsignedInteger → Says (integer false ms) (IsMade (size_of ms) (align_of ms) false)
+unsigned_says k place ms t is = integer_says (inside t.class ms k) places.UnsignedInteger false ms Property.unsigned_size (subst (λ p. RowsSound (inside t.class ms k) p ms) is t.rows)
 
-value_said : (of : Members → Option IntType) (by_default : Bool) (t : IntType) (o : Option Data) → ((ms : Members) → o ≡ Some (object ms) → IsSome (of ms)) → IsSome (feature_of of by_default t o)
-value_said of by_default t (Some (object ms)) own = mapped_there (λ x. Some x) (of ms) (own ms refl)
-value_said of by_default t (Some (boolean b)) own = refl
-value_said of by_default t _ own = refl
+size_is : (ms : Members) (t : IntType) (n : ℕ) → IsMade (size_of ms) (align_of ms) false t → is_number (natural_in (codes "size") ms) n ≡ true → t.size ≡ n
+unfolding size_of
+size_is ms t n made is = made.size_is ∙ ap (λ o. unwrap_or o 0) (same_natural (codes "size") ms ∙ number_told (natural_in (codes "size") ms) n is)
 
--- a feature of an object
-module _ (k : Known) (around : Place) (ms : Members) (h : RowsSound k around ms) where
-  pub feature_there : (place : Place) (name : List ℕ) (by_default : Bool) (t : IntType) → IsFeature place → Leads around name (At place) → IsSome (feature name by_default t ms)
+-- ---- the type that a feature has: the one that it says itself, or its default
+
+on_or_off : (P : IntType → Type 0) (b : Bool) (t : IntType) → P t → OnlyIf (cond b (Some t) None) P
+on_or_off P true t h = λ x is. subst P (same_Some t x is) h
+on_or_off P false t h = λ x is. absurd cc
+
+value_says : (P : IntType → Type 0) (of : Members → Option IntType) (b : Bool) (t : IntType) (o : Option Data) → P t → ((ms : Members) → o ≡ Some (object ms) → Says (of ms) P) → Says (feature_of of b t o) (λ x. OnlyIf x P)
+value_says P of b t (Some (object ms)) h own = mapped_says P (λ x. OnlyIf x P) (λ x. Some x) (of ms) (λ x one y is. subst P (same_Some x y is) one) (own ms refl)
+value_says P of b t (Some (boolean c)) h own = (_, refl, on_or_off P c t h)
+value_says P of b t _ h own = (_, refl, on_or_off P b t h)
+
+-- an unsigned integer of this clock, or of none
+abbrev pub IsOfClock : Option (List ℕ) → IntType → Type 0
+IsOfClock clock t = (t.signed ≡ false) × (t.clock ≡ clock)
+
+mapped_of : (clock : Option (List ℕ)) (t : IntType) → IsPlainUnsigned t → IsOfClock clock (mapped clock t)
+unfolding mapped
+mapped_of None t plain = plain
+mapped_of (Some c) t plain = (plain.0, refl)
+
+mapped_only : (clock : Option (List ℕ)) (o : Option IntType) → OnlyIf o IsPlainUnsigned → OnlyIf (option_map (mapped clock) o) (IsOfClock clock)
+mapped_only clock None plain = λ t is. absurd cc
+mapped_only clock (Some x) plain = λ t is. subst (IsOfClock clock) (same_Some (mapped clock x) t is) (mapped_of clock x (plain x refl))
+
+plain_or : (o : Option IntType) → OnlyIf o IsPlainUnsigned → IsPlainUnsigned (unwrap_or o number_type)
+plain_or None only = (refl, refl)
+plain_or (Some t) only = only t refl
+
+-- the features of an object
+module _ (k : Known) (around : Place) (ms : Members) (f : member_flaws k around ms ≡ []) where
+  -- where each object at a place says a type, so does the feature
+  own_says : (P : IntType → Type 0) (place : Place) (name : List ℕ) (b : Bool) (t : IntType) (of : Members → Option IntType) → Leads around name (At place) → P t → ((own : Members) → ObjectSound k place own → Says (of own) P)
+      → Says (feature_of of b t (optional name ms)) (λ x. OnlyIf x P)
+  own_says P place name b t of leads h each =
+      value_says P of b t (optional name ms) h (λ own is. each own (object_sound k place own (optional_sound k around name (At place) ms (object own) leads f is).value.inner))
+
+  integer_feature : (P : IntType → Type 0) (place : Place) (name : List ℕ) (b : Bool) (t : IntType) → FeaturePlace place → Leads around name (At place) → P t
+      → ((own : Members) (x : IntType) → ObjectSound k place own → IsMade (size_of own) (align_of own) false x → P x) → Says (feature name b t ms) (λ x. OnlyIf x P)
   unfolding feature
-  feature_there place name by_default t f leads =
-      value_said (integer false) by_default t (optional name ms)
-      (λ own e. let t = type_sound k place own f.position (object_sound k place own (optional_sound k around name (At place) ms (object own) leads h.flaws e).value.inner) in unsigned_said k place own t (f.class t.class t.may_stand))
+  integer_feature P place name b t at leads h each = own_says P place name b t (integer false) leads h (λ own sound.
+      let position = position_of at in
+      let t = type_sound k place own position.0 sound in
+      let x = unsigned_says k place own t (position.1 t.class t.may_stand) in
+      (x.0, x.1, each own x.0 sound x.2))
 
-  pub size_there : (name : List ℕ) → Leads around name (At places.SizeFeature) → IsSome (size name ms)
+  plain_feature : (place : Place) (name : List ℕ) (b : Bool) → FeaturePlace place → Leads around name (At place) → Says (feature name b number_type ms) (λ x. OnlyIf x IsPlainUnsigned)
+  plain_feature place name b at leads = integer_feature IsPlainUnsigned place name b number_type at leads (refl, refl) (λ own x sound made. (made.sign_is, made.no_clock))
+
+  size_says : (name : List ℕ) → Leads around name (At places.SizeFeature) → Says (size name ms) IsPlainUnsigned
   unfolding size
-  size_there name leads = mapped_there (λ t. unwrap_or t number_type) (feature name true number_type ms) (feature_there places.SizeFeature name true number_type (is_feature FeaturePlace.size_of_packet) leads)
+  size_says name leads =
+      mapped_says (λ x. OnlyIf x IsPlainUnsigned) IsPlainUnsigned (λ t. unwrap_or t number_type) (feature name true number_type ms) plain_or (plain_feature places.SizeFeature name true FeaturePlace.size_of_packet leads)
 
-  pub timestamp_there : (name : List ℕ) (clock : Option (List ℕ)) → Leads around name (At places.Feature) → IsSome (timestamp name clock ms)
+  timestamp_says : (name : List ℕ) (clock : Option (List ℕ)) → Leads around name (At places.Feature) → Says (timestamp name clock ms) (λ x. OnlyIf x (IsOfClock clock))
   unfolding timestamp
-  timestamp_there name clock leads = mapped_there (option_map (mapped clock)) (feature name (is_some clock) number_type ms) (feature_there places.Feature name (is_some clock) number_type (is_feature FeaturePlace.any) leads)
+  timestamp_says name clock leads =
+      mapped_says (λ x. OnlyIf x IsPlainUnsigned) (λ x. OnlyIf x (IsOfClock clock)) (option_map (mapped clock)) (feature name (is_some clock) number_type ms) (mapped_only clock) (plain_feature places.Feature name (is_some clock) FeaturePlace.any leads)
 
 -- ---- an identifier
+
+abbrev pub IsByte : IntType → Type 0
+IsByte t = IsPlainUnsigned t × (t.size ≡ 8) × (t.align ≡ 8)
 
 is_no_null : (x : Data) → is_byte (Some x) ≡ true → is_null x ≡ false
 is_no_null null e = absurd (false≢true e)
 is_no_null _ e = refl
 
-byte_said : (k : Known) (x : Data) → ContentSound k (At places.ElementType) x → is_byte (Some x) ≡ true → IsSome (option_and_then (integer false) (as_object x))
-unfolding is_position
-byte_said k (object ms) h e =
+eight_aligned : (o : Option Data) (size : ℕ) → is_eight o ≡ true → size ≡ 8 → unwrap_or (option_and_then alignment_of (option_and_then as_natural o)) (default_align size) ≡ 8
+eight_aligned None size e is = ap default_align is
+eight_aligned (Some d) size e is = ap (λ o. unwrap_or (option_and_then alignment_of o) (default_align size)) (number_told (as_natural d) 8 e)
+
+byte_says : (k : Known) (x : Data) → ContentSound k (At places.ElementType) x → is_byte (Some x) ≡ true → Says (option_and_then (integer false) (as_object x)) IsByte
+unfolding is_position align_of alignment natural
+byte_says k (object ms) h e =
     let t = type_sound k places.ElementType ms refl (object_sound k places.ElementType ms h.inner) in
-    let unsigned = (and_parts (is_unsigned_integer (class_of ms)) (is_number (natural_in (codes "size") ms) 8 && is_eight (optional (codes "alignment") ms)) e).0 in
-    unsigned_said k places.ElementType ms t (same_Some t.class places.UnsignedInteger (sym t.is ∙ unsigned_told (class_of ms) unsigned))
-byte_said k _ h e = absurd (false≢true e)
+    let p = and_parts (is_unsigned_integer (class_of ms)) (is_number (natural_in (codes "size") ms) 8 && is_eight (optional (codes "alignment") ms)) e in
+    let q = and_parts (is_number (natural_in (codes "size") ms) 8) (is_eight (optional (codes "alignment") ms)) p.1 in
+    let x = unsigned_says k places.ElementType ms t (same_Some t.class places.UnsignedInteger (sym t.is ∙ unsigned_told (class_of ms) p.0)) in
+    let made = x.2 in
+    let size = size_is ms x.0 8 made q.0 in
+    (x.0, x.1, ((made.sign_is, made.no_clock), size, made.align_is ∙ eight_aligned (optional (codes "alignment") ms) (size_of ms) q.1 (sym made.size_is ∙ size)))
+byte_says k _ h e = absurd (false≢true e)
 
 array_class : (class : Place) → admits_class places.IdentifierFeature class ≡ true → class ≡ places.StaticArray
 unfolding admits_class
 array_class places.StaticArray a = refl
 array_class _ a = absurd (false≢true a)
 
-bytes_said : (k : Known) (ms : Members) → ObjectSound k places.IdentifierFeature ms → IsSome (byte_of ms)
-unfolding is_position shape_of is_identifier byte_of object_in
-bytes_said k ms h =
+bytes_say : (k : Known) (ms : Members) → ObjectSound k places.IdentifierFeature ms → Says (byte_of ms) IsByte
+unfolding is_position shape_of is_identifier byte_of object_named
+bytes_say k ms h =
     let t = type_sound k places.IdentifierFeature ms refl h in
     let rows = subst (λ p. RowsSound (inside t.class ms k) p ms) (array_class t.class t.may_stand) t.rows in
     let p = needed_sound (inside t.class ms k) places.StaticArray (codes "element-field-type") (At places.ElementType) ms (leads Property.element) (needed_by Property.element) rows in
     let shaped = (and_parts (is_number (natural_in (codes "length") ms) 16) (is_byte (get_member (codes "element-field-type") ms)) (was_so _ t.shape)).1 in
     let byte : is_byte (Some p.value) ≡ true = ap is_byte (sym p.found) ∙ shaped in
-    subst (λ o. IsSome (option_and_then (integer false) (option_and_then as_object o))) (sym (optional_found (codes "element-field-type") ms p.value p.found (is_no_null p.value byte))) (byte_said (inside t.class ms k) p.value p.sound.value byte)
+    subst (λ o. Says (option_and_then (integer false) (option_and_then as_object o)) IsByte) (sym (optional_found (codes "element-field-type") ms p.value p.found (is_no_null p.value byte))) (byte_says (inside t.class ms k) p.value p.sound.value byte)
 
-pub identifier_there : (k : Known) (around : Place) (ms : Members) (h : RowsSound k around ms) (name : List ℕ) (by_default : Bool) → Leads around name (At places.IdentifierFeature) → IsSome (identifier name by_default ms)
-unfolding identifier
-identifier_there k around ms h name by_default leads =
-    value_said byte_of by_default byte_type (optional name ms)
-    (λ own e. bytes_said k own (object_sound k places.IdentifierFeature own (optional_sound k around name (At places.IdentifierFeature) ms (object own) leads h.flaws e).value.inner))
+-- ---- the features of a trace, a packet and an event record
 
-header_said : (k : Known) (has_uuid : Bool) (ms : Members) → RowsSound k places.TraceFeatures ms → IsSome (header has_uuid ms)
-unfolding header
-header_said k has_uuid ms h =
-    let magic = some_there _ (feature_there k places.TraceFeatures ms h places.MagicFeature (codes "magic-field-type") true magic_type (is_feature FeaturePlace.magic_number) (leads Property.magic)) in
-    let uuid = some_there _ (identifier_there k places.TraceFeatures ms h (codes "uuid-field-type") has_uuid (leads Property.uuid)) in
-    let stream_id = some_there _ (feature_there k places.TraceFeatures ms h places.Feature (codes "data-stream-type-id-field-type") true number_type (is_feature FeaturePlace.any) (leads Property.stream_id)) in
-    rw (magic.1, uuid.1, stream_id.1) refl
+abbrev IsMagic : IntType → Type 0
+IsMagic t = IsPlainUnsigned t × (t.size ≡ 32)
 
-pub header_there : (k : Known) (around : Place) (has_uuid : Bool) (ms : Members) → Leads around (codes "$features") (At places.TraceFeatures) → RowsSound k around ms → IsSome (header has_uuid (properties (codes "$features") ms))
-unfolding all_there orders_there rows_of
-header_there k around has_uuid ms leads h =
-    by_object k around places.TraceFeatures (codes "$features") ms leads (is_object OwnPlace.trace_features) h (λ os. IsSome (header has_uuid os)) refl (λ j os rows. header_said j has_uuid os rows)
+pub record IsHeader (f : HeaderFeatures) : Type 0 where
+  pub magic : OnlyIf f.magic IsMagic
+  pub uuid : OnlyIf f.uuid IsByte
+  pub stream_id : OnlyIf f.stream_id IsPlainUnsigned
 
-context_said : (k : Known) (clock : Option (List ℕ)) (ms : Members) → RowsSound k places.PacketFeatures ms → IsSome (context clock ms)
+header_says : (k : Known) (has : Bool) (ms : Members) → member_flaws k places.TraceFeatures ms ≡ [] → Says (header has ms) IsHeader
+unfolding header shape_of identifier
+header_says k has ms f =
+    let magic = integer_feature k places.TraceFeatures ms f IsMagic places.MagicFeature (codes "magic-field-type") true magic_type FeaturePlace.magic_number (leads Property.magic) ((refl, refl), refl) (λ own x sound made. ((made.sign_is, made.no_clock), size_is own x 32 made (was_so _ sound.shape))) in
+    let uuid = own_says k places.TraceFeatures ms f IsByte places.IdentifierFeature (codes "uuid-field-type") has byte_type byte_of (leads Property.uuid) ((refl, refl), refl, refl) (bytes_say k) in
+    let stream_id = plain_feature k places.TraceFeatures ms f places.Feature (codes "data-stream-type-id-field-type") true FeaturePlace.any (leads Property.stream_id) in
+    (record { magic = magic.0; uuid = uuid.0; stream_id = stream_id.0 }, rw (magic.1, uuid.1, stream_id.1) refl, record { magic = magic.2; uuid = uuid.2; stream_id = stream_id.2 })
+
+pub record IsContext (clock : Option (List ℕ)) (f : ContextFeatures) : Type 0 where
+  pub packet_size : IsPlainUnsigned f.packet_size
+  pub content_size : IsPlainUnsigned f.content_size
+  pub timestamp_begin : OnlyIf f.timestamp_begin (IsOfClock clock)
+  pub timestamp_end : OnlyIf f.timestamp_end (IsOfClock clock)
+  pub events_discarded : OnlyIf f.events_discarded IsPlainUnsigned
+  pub packet_seq_num : OnlyIf f.packet_seq_num IsPlainUnsigned
+
+context_says : (k : Known) (clock : Option (List ℕ)) (ms : Members) → member_flaws k places.PacketFeatures ms ≡ [] → Says (context clock ms) (IsContext clock)
 unfolding context
-context_said k clock ms h =
-    let total_size = some_there _ (size_there k places.PacketFeatures ms h (codes "total-size-field-type") (leads Property.total_size)) in
-    let content_size = some_there _ (size_there k places.PacketFeatures ms h (codes "content-size-field-type") (leads Property.content_size)) in
-    let beginning = some_there _ (timestamp_there k places.PacketFeatures ms h (codes "beginning-timestamp-field-type") clock (leads Property.beginning)) in
-    let ending = some_there _ (timestamp_there k places.PacketFeatures ms h (codes "end-timestamp-field-type") clock (leads Property.end)) in
-    let discarded = some_there _ (feature_there k places.PacketFeatures ms h places.Feature (codes "discarded-event-records-counter-snapshot-field-type") true number_type (is_feature FeaturePlace.any) (leads Property.discarded)) in
-    let sequence = some_there _ (feature_there k places.PacketFeatures ms h places.Feature (codes "sequence-number-field-type") false number_type (is_feature FeaturePlace.any) (leads Property.sequence)) in
-    rw (total_size.1, content_size.1, beginning.1, ending.1, discarded.1, sequence.1) refl
+context_says k clock ms f =
+    let total = size_says k places.PacketFeatures ms f (codes "total-size-field-type") (leads Property.total_size) in
+    let content = size_says k places.PacketFeatures ms f (codes "content-size-field-type") (leads Property.content_size) in
+    let begin = timestamp_says k places.PacketFeatures ms f (codes "beginning-timestamp-field-type") clock (leads Property.beginning) in
+    let end = timestamp_says k places.PacketFeatures ms f (codes "end-timestamp-field-type") clock (leads Property.end) in
+    let discarded = plain_feature k places.PacketFeatures ms f places.Feature (codes "discarded-event-records-counter-snapshot-field-type") true FeaturePlace.any (leads Property.discarded) in
+    let sequence = plain_feature k places.PacketFeatures ms f places.Feature (codes "sequence-number-field-type") false FeaturePlace.any (leads Property.sequence) in
+    let said : ContextFeatures = record { packet_size = total.0; content_size = content.0; timestamp_begin = begin.0; timestamp_end = end.0; events_discarded = discarded.0; packet_seq_num = sequence.0 } in
+    (said, rw (total.1, content.1, begin.1, end.1, discarded.1, sequence.1) refl, record { packet_size = total.2; content_size = content.2; timestamp_begin = begin.2; timestamp_end = end.2; events_discarded = discarded.2; packet_seq_num = sequence.2 })
 
-pub context_there : (k : Known) (clock : Option (List ℕ)) (ms : Members) → RowsSound k places.StreamFeatures ms → IsSome (context clock (properties (codes "packet") ms))
-unfolding all_there orders_there rows_of
-context_there k clock ms h =
-    by_object k places.StreamFeatures places.PacketFeatures (codes "packet") ms (leads Property.packet) (is_object OwnPlace.packet_features) h (λ os. IsSome (context clock os)) refl (λ j os rows. context_said j clock os rows)
+pub record IsEventHeader (clock : Option (List ℕ)) (f : EventFeatures) : Type 0 where
+  pub id : OnlyIf f.id IsPlainUnsigned
+  pub timestamp : OnlyIf f.timestamp (IsOfClock clock)
 
-event_header_said : (k : Known) (clock : Option (List ℕ)) (ms : Members) → RowsSound k places.EventRecordFeatures ms → IsSome (event_header clock ms)
+event_header_says : (k : Known) (clock : Option (List ℕ)) (ms : Members) → member_flaws k places.EventRecordFeatures ms ≡ [] → Says (event_header clock ms) (IsEventHeader clock)
 unfolding event_header
-event_header_said k clock ms h =
-    let id = some_there _ (feature_there k places.EventRecordFeatures ms h places.Feature (codes "type-id-field-type") true number_type (is_feature FeaturePlace.any) (leads Property.event_id)) in
-    let timestamp = some_there _ (timestamp_there k places.EventRecordFeatures ms h (codes "timestamp-field-type") clock (leads Property.timestamp)) in
-    rw (id.1, timestamp.1) refl
+event_header_says k clock ms f =
+    let id = plain_feature k places.EventRecordFeatures ms f places.Feature (codes "type-id-field-type") true FeaturePlace.any (leads Property.event_id) in
+    let timestamp = timestamp_says k places.EventRecordFeatures ms f (codes "timestamp-field-type") clock (leads Property.timestamp) in
+    (record { id = id.0; timestamp = timestamp.0 }, rw (id.1, timestamp.1) refl, record { id = id.2; timestamp = timestamp.2 })
 
-pub event_header_there : (k : Known) (clock : Option (List ℕ)) (ms : Members) → RowsSound k places.StreamFeatures ms → IsSome (event_header clock (properties (codes "event-record") ms))
-unfolding all_there orders_there rows_of
-event_header_there k clock ms h =
-    by_object k places.StreamFeatures places.EventRecordFeatures (codes "event-record") ms (leads Property.event_record) (is_object OwnPlace.record_features) h (λ os. IsSome (event_header clock os)) refl (λ j os rows. event_header_said j clock os rows)
+-- ---- maps of types
 
--- where each object of such a map says something, all of it does
-module _ {A : Type 0} {b : Bool} {place inner : Place} (map : MapPlace b place (At inner)) (one : OwnPlace true inner) (of : List ℕ → Members → Option A)
-    (said : (k : Known) (name : List ℕ) (ms : Members) → RowsSound (inside inner ms k) inner ms → IsSome (of name ms)) where
-  types_said : (ms : Members) (k : Known) (done : List A) → member_flaws k place ms ≡ [] → IsSome (said_behind of done ms)
-  types_said no_members k done f = refl
-  types_said (member name d ms) k done f =
+-- each entry of such a map, an object, is read as a type, which is put behind those that are done
+module _ {A : Type 0} {place inner : Place} (named : A → List ℕ) (good : A → Type 0) (map : MapPlace place (At inner)) (one : OwnPlace true inner) (all : OwnPlace true place) (most : ℕ) (of : Members → List ℕ → Members → Option A)
+    (bounded : (n : ℕ) → at_most (entries_of place) n ≡ nat_le n most) (keeps : (d : Data) (k : Known) → (behind place d k).levels ≡ k.levels)
+    (says : (k : Known) (name : List ℕ) (d : Data) (ms : Members) → key_of k place name d ≡ Ok tt → member_flaws k inner ms ≡ [] → Says (of k.levels name ms) (λ x. (named x ≡ name) × (AreWithin inner ms → good x))) where
+  -- from here on, behind those that are done
+  types_say : (levels : Members) (k : Known) → k.levels ≡ levels → (ms : Members) (done : List A) → member_flaws k place ms ≡ []
+      → Says (said_behind (of levels) done ms) (λ xs. (names : List (List ℕ)) → AreWithin place ms → AreUnder named good names done → AreUnder named good (names ++ names_of ms) xs)
+  types_say levels k is no_members done f = (done, refl, λ names own h. subst (λ l. AreUnder named good l done) (sym (append-nil names)) h)
+  types_say levels k is (member name d ms) done f =
       let first = first_entry k place name (At inner) d ms (is_map map) f in
-      let h = held_at k inner d (is_object one) first.0.value in
-      subst (λ x. IsSome (said_behind of done (member name x ms))) (sym h.is)
-      (then_there (λ x. said_behind of (done ++ x ∷ []) ms) (of name h.ms) (said k name h.ms h.rows) (λ x. types_said ms (behind place d k) (done ++ x ∷ []) first.1))
+      let value = held_at k inner d (is_object one) first.0.value in
+      let new = says k name d value.ms first.0.named (subst (λ j. member_flaws j inner value.ms ≡ []) ((is_own one).known k value.ms) value.rows.flaws) in
+      let rest = types_say levels (behind place d k) (keeps d k ∙ is) ms (done ++ new.0 ∷ []) first.1 in (
+        rest.0,
+        ap (λ x. said_behind (of levels) done (member name x ms)) value.is ∙ ap (option_and_then (λ x. said_behind (of levels) (done ++ x ∷ []) ms)) (ap (λ l. of l name value.ms) (sym is) ∙ new.1) ∙ rest.1,
+        λ names own h.
+            let within = entry_within map name d ms own in
+            let inside = object_within inner inner value.ms ((is_own one).own value.ms) (subst (λ x. IsWithin (At inner) x) value.is within.0) in
+            subst (λ l. AreUnder named good l rest.0) (append_assoc names (name ∷ []) (names_of ms)) (rest.2 (names ++ name ∷ []) within.2 (last_under named good name names new.0 done new.2.0 (new.2.1 inside) h)),
+      )
 
-event_said : (k : Known) (levels : Members) (name : List ℕ) (ms : Members) → RowsSound k places.EventType ms → IsSome (event_type levels name ms)
+  map_says : (k : Known) {c : Bool} {around : Place} {name : List ℕ} → Property c around name (At place) → (ms levels : Members) → k.levels ≡ levels → member_flaws k around ms ≡ [] → Says (said_behind (of levels) [] (properties name ms)) (λ xs. AreWithin around ms → AreAllowed named good most xs)
+  map_says k {name = name} property ms levels is f =
+      let types = types_say levels k is (properties name ms) [] (flaws_in k property all ms f) in (
+        types.0,
+        types.1,
+        λ h.
+            let own = all_within property all ms h in
+            map_allowed named good most (properties name ms) types.0 own.0.in_order (sym (bounded (members_len (properties name ms))) ∙ own.1) (types.2 [] own.0 (none_under named good)),
+      )
+
+-- ---- event record types
+
+abbrev highest : ℕ
+highest = 9223372036854775807
+
+small : (d : Data) (n : ℕ) → whole_from (pos 0) (pos highest) d ≡ Ok tt → as_natural d ≡ Some n → n < 2 ^ 63
+small d n judged is = let b = (natural_is_in 0 highest d n (omega arith) judged is).1 in omega (arith, b)
+
+level_small : (levels : Members) (d : Data) (n : ℕ) → level levels (pos highest) d ≡ Ok tt → level_of levels (Some d) ≡ Some n → n < 2 ^ 63
+unfolding level
+level_small levels (string name) n judged is =
+    by_found (λ (o : Option Data). option_map_or (whole_from (pos 0) (pos highest)) o (Err (here NoSuchAlias)) ≡ Ok tt → option_and_then as_natural o ≡ Some n → n < 2 ^ 63) (get_member name levels) (λ none j e. absurd cc) (λ d there j e. small d n j e) judged is
+level_small levels d n judged is = small d n judged is
+
+level_allowed : (k : Known) (ms : Members) (n : ℕ) → member_flaws k places.EventType ms ≡ [] → level_of k.levels (optional (codes "log-level") ms) ≡ Some n → n < 2 ^ 63
+unfolding itself_of leaf_of
+level_allowed k ms n f e =
+    by_found (λ (o : Option Data). level_of k.levels o ≡ Some n → n < 2 ^ 63) (optional (codes "log-level") ms)
+    (λ is e. absurd cc) (λ d is e. level_small k.levels d n (optional_sound k places.EventType (codes "log-level") (Level (pos highest)) ms d (leads Property.level) f is).value.itself e) e
+
+-- what the rules say of an event record type, but for its bits
+pub record IsGoodEvent (e : EventType) : Type 0 where
+  pub name : IsConfigName e.name
+  pub log_level : (n : ℕ) → e.log_level ≡ Some n → n < 2 ^ 63
+  pub specific : IsConfigStruct e.specific
+  pub payload : IsConfigStruct e.payload
+
+event_says : (k : Known) (name : List ℕ) (ms : Members) → IsConfigName name → member_flaws k places.EventType ms ≡ [] → Says (event_type k.levels name ms) (λ e. (e.name ≡ name) × (AreWithin places.EventType ms → IsGoodEvent e))
 unfolding event_type
-event_said k levels name ms h =
-    let specific = some_there _ (structure_there k places.EventType (codes "specific-context-field-type") ms (leads Property.specific) h) in
-    let payload = some_there _ (structure_there k places.EventType (codes "payload-field-type") ms (leads Property.payload) h) in
-    rw (specific.1, payload.1) refl
+event_says k name ms named f =
+    let specific = structure_says k Property.specific ms f in
+    let payload = structure_says k Property.payload ms f in (
+      record { name = name; log_level = level_of k.levels (optional (codes "log-level") ms); specific = specific.0; payload = payload.0 },
+      rw (specific.1, payload.1) refl,
+      (refl, λ h. record { name = named; log_level = λ n is. level_allowed k ms n f is; specific = specific.2 h; payload = payload.2 h }),
+    )
 
-pub events_there : (k : Known) (around : Place) (levels ms : Members) → Leads around (codes "event-record-types") (At places.EventTypes) → RowsSound k around ms → IsSome (event_types levels ms)
-unfolding event_types all_there orders_there rows_of
-events_there k around levels ms leads h =
-    by_object k around places.EventTypes (codes "event-record-types") ms leads (is_object OwnPlace.event_types) h (λ os. IsSome (said_behind (event_type levels) [] os)) refl
-    (λ i os rows. types_said MapPlace.event_types OwnPlace.event_type (event_type levels) (λ j name ns own. event_said (inside places.EventType ns j) levels name ns own) os i [] rows.flaws)
+abbrev event_name : EventType → List ℕ
+event_name e = e.name
 
--- one data stream type
-module _ (k : Known) (ms : Members) (h : RowsSound k places.StreamType ms) where
-  from_features : (P : Members → Type 0) → ((j : Known) (os : Members) → RowsSound j places.StreamFeatures os → P os) → P (properties (codes "$features") ms)
-  unfolding all_there orders_there rows_of
-  from_features P each = by_object k places.StreamType places.StreamFeatures (codes "$features") ms (leads Property.stream_features) (is_object OwnPlace.stream_features) h P refl each
+abbrev pub AreGoodEvents : List EventType → Type 0
+AreGoodEvents es = AreAllowed event_name IsGoodEvent 1024 es
 
-  stream_said : (levels : Members) (name : List ℕ) → IsSome (stream_type levels name ms)
-  unfolding stream_type
-  stream_said levels name =
-      let context = some_there _ (from_features (λ os. IsSome (context (clock_of ms) (properties (codes "packet") os))) (λ j os rows. context_there j (clock_of ms) os rows)) in
-      let extras = some_there _ (extras_there k places.StreamType (codes "packet-context-field-type-extra-members") ms (leads Property.extras) h) in
-      let header = some_there _ (from_features (λ os. IsSome (event_header (clock_of ms) (properties (codes "event-record") os))) (λ j os rows. event_header_there j (clock_of ms) os rows)) in
-      let common = some_there _ (structure_there k places.StreamType (codes "event-record-common-context-field-type") ms (leads Property.common) h) in
-      let events = some_there _ (events_there k places.StreamType levels ms (leads Property.event_types) h) in
-      rw (context.1, extras.1, header.1, common.1, events.1) refl
+events_say : (k : Known) (ms : Members) → member_flaws k places.StreamType ms ≡ [] → Says (event_types k.levels ms) (λ es. AreWithin places.StreamType ms → AreGoodEvents es)
+unfolding event_types key_of key_by entries_of behind
+events_say k ms f =
+    map_says event_name IsGoodEvent MapPlace.event_types OwnPlace.event_type OwnPlace.event_types 1024 event_type (λ n. refl) (λ d j. refl) (λ j name d own judged flaws. event_says j name own (config_name name judged) flaws)
+    k Property.event_types ms k.levels refl f
 
-pub streams_there : (k : Known) (around : Place) (ms : Members) → Leads around (codes "data-stream-types") (At places.StreamTypes) → RowsSound k around ms → IsSome (stream_types ms)
-unfolding stream_types all_there orders_there rows_of
-streams_there k around ms leads h =
-    let levels = properties (codes "$log-level-aliases") ms in
-    by_object k around places.StreamTypes (codes "data-stream-types") ms leads (is_object OwnPlace.stream_types) h (λ os. IsSome (said_behind (stream_type levels) [] os)) refl
-    (λ i os rows. types_said MapPlace.stream_types OwnPlace.stream_type (stream_type levels) (λ j name ns own. stream_said (inside places.StreamType ns j) ns own levels name) os i [] rows.flaws)
+-- ---- data stream types
 
-type_said : (k : Known) (number : Option (List ℕ)) (entries : List EnvironmentEntry) (ms : Members) → RowsSound k places.TraceType ms → IsSome (draft_of_type number entries ms)
+-- what the rules say of a data stream type by itself
+pub record IsGoodStream (s : StreamType) : Type 0 where
+  pub name : IsConfigName s.name
+  pub context : IsContext s.default_clock s.context
+  pub extras : AreExtras s.extras
+  pub event_header : IsEventHeader s.default_clock s.event_header
+  pub common : IsConfigStruct s.common
+  pub events : AreGoodEvents s.events
+
+stream_says : (k : Known) (name : List ℕ) (ms : Members) → IsConfigName name → member_flaws k places.StreamType ms ≡ [] → Says (stream_type k.levels name ms) (λ s. (s.name ≡ name) × (AreWithin places.StreamType ms → IsGoodStream s))
+unfolding stream_type
+stream_says k name ms named f =
+    let features = properties (codes "$features") ms in
+    let own = flaws_in k Property.stream_features OwnPlace.stream_features ms f in
+    let context = context_says k (clock_of ms) (properties (codes "packet") features) (flaws_in k Property.packet OwnPlace.packet_features features own) in
+    let extras = extras_says k ms f in
+    let header = event_header_says k (clock_of ms) (properties (codes "event-record") features) (flaws_in k Property.event_record OwnPlace.record_features features own) in
+    let common = structure_says k Property.common ms f in
+    let events = events_say k ms f in (
+      record { name = name; default_clock = clock_of ms; context = context.0; extras = extras.0; event_header = header.0; common = common.0; events = events.0 },
+      rw (context.1, extras.1, header.1, common.1, events.1) refl,
+      (refl, λ h. record { name = named; context = context.2; extras = extras.2 h; event_header = header.2; common = common.2 h; events = events.2 h }),
+    )
+
+abbrev stream_name : StreamType → List ℕ
+stream_name s = s.name
+
+abbrev pub AreGoodStreams : List StreamType → Type 0
+AreGoodStreams ss = AreAllowed stream_name IsGoodStream 64 ss
+
+streams_say : (k : Known) (ms : Members) → k.levels ≡ properties (codes "$log-level-aliases") ms → member_flaws k places.TraceType ms ≡ [] → Says (stream_types ms) (λ ss. AreWithin places.TraceType ms → AreGoodStreams ss)
+unfolding stream_types key_of key_by entries_of behind
+streams_say k ms levels f =
+    map_says stream_name IsGoodStream MapPlace.stream_types OwnPlace.stream_type OwnPlace.stream_types 64 stream_type (λ n. refl) (λ d j. refl) (λ j name d own judged flaws. stream_says j name own (config_name name judged) flaws)
+    k Property.stream_types ms (properties (codes "$log-level-aliases") ms) levels f
+
+-- ---- the trace
+
+-- what the rules say of the parts of a configuration by themselves
+pub record IsGoodConfig (c : Config) : Type 0 where
+  pub environment : IsEnvironment c.environment
+  pub clocks : AreClocks c.clocks
+  pub header : IsHeader c.header
+  pub streams : AreGoodStreams c.streams
+
+levels_same : (o : Option Data) → members_or_none o ≡ unwrap_or (option_and_then as_object o) no_members
+levels_same (Some (object ms)) = refl
+levels_same _ = refl
+
+type_says : (k : Known) (given : Option (List ℕ)) (entries : List EnvironmentEntry) (ms : Members) → k.levels ≡ properties (codes "$log-level-aliases") ms → member_flaws k places.TraceType ms ≡ []
+    → Says (draft_of_type given entries ms) (λ draft. IsEnvironment entries → AreWithin places.TraceType ms → IsGoodConfig draft.config)
 unfolding draft_of_type
-type_said k number entries ms h =
-    let header = some_there _ (header_there k places.TraceType (is_some (word (codes "uuid") ms)) ms (leads Property.trace_features) h) in
-    let streams = some_there _ (streams_there k places.TraceType ms (leads Property.stream_types) h) in
-    rw (header.1, streams.1) refl
+type_says k given entries ms levels f =
+    let header = header_says k (is_some (word (codes "uuid") ms)) (properties (codes "$features") ms) (flaws_in k Property.trace_features OwnPlace.trace_features ms f) in
+    let streams = streams_say k ms levels f in (
+      _,
+      ap (λ a. draft_with given entries ms a (stream_types ms)) header.1 ∙ ap (draft_with given entries ms (Some header.0)) streams.1,
+      λ env h. record { environment = env; clocks = clocks_allowed k ms f h; header = header.2; streams = streams.2 h },
+    )
 
-trace_said : (k : Known) (number : Option (List ℕ)) (ms : Members) → RowsSound k places.Trace ms → IsSome (draft_of_trace number ms)
-unfolding draft_of_trace
-trace_said k number ms h =
+trace_says : (k : Known) (given : Option (List ℕ)) (ms : Members) → RowsSound k places.Trace ms → Says (draft_of_trace given ms) (λ draft. AreWithin places.Trace ms → IsGoodConfig draft.config)
+unfolding draft_of_trace inside properties object_named
+trace_says k given ms h =
     let t = needed_object k places.Trace places.TraceType (codes "type") ms (leads Property.trace_type) type_object h (needed_by Property.trace_type) in
-    subst (λ o. IsSome (option_and_then (draft_of_type number (environment ms)) o)) (sym t.1) (type_said (inside places.TraceType t.0 k) number (environment ms) t.0 t.2)
+    let type = type_says (inside places.TraceType t.0 k) given (environment ms) t.0 (levels_same (optional (codes "$log-level-aliases") t.0)) t.2.flaws in (
+      type.0,
+      ap (option_and_then (draft_of_type given (environment ms))) t.1 ∙ type.1,
+      λ good. type.2 (environment_allowed k ms h.flaws good) (object_within places.TraceType places.TraceType t.0 (type_object.own t.0) (optional_within Property.trace_type ms (object t.0) good (object_there (optional (codes "type") ms) t.0 t.1))),
+    )
 
-root_said : (k : Known) (number : Option (List ℕ)) (ms : Members) → RowsSound k places.Root ms → IsSome (draft_of_root number ms)
-unfolding draft_of_root
-root_said k number ms h =
+root_says : (k : Known) (given : Option (List ℕ)) (ms : Members) → RowsSound k places.Root ms → Says (draft_of_root given ms) (λ draft. AreWithin places.Root ms → IsGoodConfig draft.config)
+unfolding draft_of_root inside object_named
+root_says k given ms h =
     let t = needed_object k places.Root places.Trace (codes "trace") ms (leads Property.trace) (is_object OwnPlace.trace) h (needed_by Property.trace) in
-    subst (λ o. IsSome (option_and_then (draft_of_trace number) o)) (sym t.1) (trace_said (inside places.Trace t.0 k) number t.0 t.2)
+    let trace = trace_says k given t.0 t.2 in (
+      trace.0,
+      ap (option_and_then (draft_of_trace given)) t.1 ∙ trace.1,
+      λ good. trace.2 (object_within places.Trace places.Trace t.0 ((is_own OwnPlace.trace).own t.0) (optional_within Property.trace ms (object t.0) good (object_there (optional (codes "trace") ms) t.0 t.1))),
+    )
 
-pub tree_said : (number : Option (List ℕ)) (d : Data) → configuration_flaws d ≡ [] → IsSome (draft_of number d)
-tree_said number d f =
-    let h = held_at nothing places.Root d (is_object OwnPlace.root) (content_sound nothing (At places.Root) d f) in subst (λ x. IsSome (draft_of number x)) (sym h.is) (root_said (inside places.Root h.ms nothing) number h.ms h.rows)
+pub tree_says : (given : Option (List ℕ)) (d : Data) → configuration_flaws d ≡ [] → Says (draft_of given d) (λ draft. IsWithin (At places.Root) d → IsGoodConfig draft.config)
+unfolding inside
+tree_says given d f =
+    let h = held_at nothing places.Root d (is_object OwnPlace.root) (content_sound nothing (At places.Root) d f) in
+    let root = root_says nothing given h.ms h.rows in (
+      root.0,
+      ap (draft_of given) h.is ∙ root.1,
+      λ good. root.2 (object_within places.Root places.Root h.ms ((is_own OwnPlace.root).own h.ms) (subst (λ x. IsWithin (At places.Root) x) h.is good)),
+    )
+
+-- what has no flaw says something
+pub tree_said : (given : Option (List ℕ)) (d : Data) → configuration_flaws d ≡ [] → IsSome (draft_of given d)
+tree_said given d f = ap is_some (tree_says given d f).1

@@ -1,40 +1,96 @@
--- What is told of a value by itself, and of the name of an entry, is a flaw of it.
-use Rattle.std.proofs.Common.{◌≡◌, ◌≢◌, ◌⊎◌, ◌↔◌, ◌≤◌, ◌^◌, ◌&&◌, ◌||◌, ℕ, zero, suc, ℤ, pos, Bool, true, false, not, cond, List, [], ◌∷◌, map, Contains, Option, Some, None, is_some, Result, Ok, Err, inl, inr, refl, sym, ap, subst, ◌∙◌, arith, get_or, codes, unwrap_or, option_map, option_and_then, nat_lt, nat_eq, int_le}
-use Rattle.conf_laws.proofs.Agreement.{Agrees, IsTrue, dynamic_told}
-use Rattle.conf_laws.proofs.Numbers.{whole_read, lowest_end, highest_end, ReadSo, read_so}
-use Rattle.conf_laws.proofs.Readings.{some_none, some_same, by_found, by_test}
-use Rattle.conf_laws.proofs.Words.{Around, enumeration_around, HasNumber, HasBits, IsTaken, IsPowerOfTwo, IsNoPowerOfTwo, IsNoLevel, IsNoWholeOrText, IsNoDefault, IsRange, IsNoRange, IsNoSomeList, IsNoSomeObject, IsNoEntry, IsNoFeature, IsNoSizeFeature, IsNoneAt, words_of_classes, IsNoValueOf, IsNoMemberName, IsNoLabel, IsNoKey, IsNoNameAt, ClassWord, class_words, class_in, entries_of, words_of, Place, Content, Entries, Keys, any_object, feature_form as feature, size_feature, form_of, itself_of, Known, only_if, whole_from, is_power_of_two, power_of, whole_or_text, level, leaf_of, is_dynamic, is_taken, free_of, key_by, key_of, all_numbers, natural_in, numbers_of, numbers_in, end_of, pair_of, range_of, is_inside, inside_of, Flaw, index, here, within, ◌>>=◌, at, object_of, list_of, text_of, flag_of, whole_of, WrongKind, OutOfRange, NameClash, NoSuchAlias, same_flaw, refused_here_or_next, refused_there, refused_test, refused_where, wanted_refused, wanted_found, none_refused, holds_of, object_refused, list_refused, text_refused, flag_refused, whole_refused, control_there, name_refused, plain_name_refused, IsNoObject, IsNoWhole, IsNoConfigText, IsNoUuid, IsNoWordOf, plain_name_of, is_printable, uuid_in, as_natural, Data, boolean, string, array, Items, no_items, item, Members, no_members, member, items_len, members_len, get_member, as_object, as_array, as_str, as_bool, pow_mono, true≢false, false≢true, and_cases, and_parts, option_map_or, or_parts, or_cases, cases_lt, eqb-false, ltb-false, agree_below_at, list_any_at, bytes_eq-Decides, list_any, bytes_eq, lowest, highest, length_name, parsed, le-true, le-false, below_in, nat_tests}
+-- What is told of a value by itself, and of the name of an entry, is a flaw of it; and where nothing is told it has none.
+use Rattle.std.proofs.Common.{◌≡◌, ◌≢◌, ◌⊎◌, ◌↔◌, ◌*◌, ◌/◌, ◌<◌, ◌≤◌, ◌^◌, ◌%◌, ◌==◌, ◌&&◌, ◌||◌, ℕ, zero, suc, ℤ, pos, negsuc, ◌<ℤ◌, Bool, true, false, not, cond, List, [], ◌∷◌, map, length, Contains, Option, Some, None, is_some, Result, Ok, Err, inl, inr, refl, sym, ap, subst, ◌∙◌, arith, get_or, codes, unwrap_or, option_map, option_and_then, nat_lt, nat_le, nat_eq, int_le}
+use Rattle.conf_laws.proofs.Agreement.{Agrees, IsTrue, dynamic_told, told_dynamic}
+use Rattle.conf_laws.proofs.Numbers.{whole_read, whole_there, lowest_end, highest_end, ReadSo, read_so, end_whole, some_size}
+use Rattle.conf_laws.proofs.Readings.{some_none, some_same, by_found, by_test, under_no_test}
+use Rattle.conf_laws.proofs.Words.{Around, enumeration_around, HasNumber, HasBits, IsTaken, IsPowerOfTwo, IsNoPowerOfTwo, IsNoLevel, IsNoWholeOrText, IsNoDefault, IsWhole, IsPair, IsRange, IsNoRange, IsNoSomeList, IsNoSomeObject, IsNoEntry, IsNoFeature, IsNoSizeFeature, IsNoneAt, words_of_classes, IsNoValueOf, IsNoMemberName, IsNoLabel, IsNoKey, IsNoNameAt, ClassWord, class_words, class_in, entries_of, words_of, Place, Content, Entries, Keys, any_object, feature_form as feature, size_feature, form_of, itself_of, Known, only_if, whole_from, is_power_of_two, power_of, whole_or_text, level, leaf_of, is_dynamic, is_taken, free_of, key_by, key_of, all_numbers, natural_in, numbers_of, numbers_in, end_of, pair_of, range_of, is_inside, inside_of, Flaw, index, here, within, ◌>>=◌, at, wanted, text_of, flag_of, whole_of, WrongKind, OutOfRange, BadName, ReservedName, NameClash, NoSuchAlias, same_flaw, refused_here_or_next, refused_there, none_refused, holds_of, whole_refused, control_there, name_refused, plain_name_refused, word_listed as listed, both_read, is_passed, IsNoObject, IsNoList, IsNoText, IsNoFlag, IsNoWhole, IsNoConfigText, IsNoUuid, IsNoWordOf, IsControl, IsNoName, IsNoPlainName, name_of, is_reserved, plain_name_of, is_printable, uuid_in, as_natural, Data, boolean, string, array, Items, no_items, item, Members, no_members, member, items_len, members_len, get_member, as_object, as_array, as_str, as_bool, as_number, as_integer, pow_mono, true≢false, false≢true, and_cases, and_parts, and_from, option_map_or, or_parts, or_cases, or_from, cases_lt, eqb-false, eqb-true, ltb-false, ltb-true, leb-true, lt-leb, ne_eqb, agree_below_at, list_any_at, list_all_at, bytes_eq-Decides, list_any, bytes_eq, lowest, highest, length_name, is_name as is_identifier, unused_keywords, used_keywords, divisors_of_pow, same_Some, parsed, le-true, le-false, lt_out, below_in, nat_tests, ⊤}
 use Rattle.conf_laws.proofs.Words.places
 use Rattle.conf_laws.proofs.Words.contents
 use Rattle.conf_laws.proofs.Words.keys
 
--- ---- steps
+-- ---- judgements
+
+-- what a reading refuses is such a flaw, and where it goes well there is none
+abbrev pub IsJudged : {A : Type 0} → Result A Flaw → (Flaw → Type 0) → Type 0
+IsJudged (Ok x) P = (flaw : Flaw) → ¬ P flaw
+IsJudged (Err flaw) P = P flaw
+
+pub both_judged : {A : Type 0} (P : Flaw → Type 0) (r : Result A Flaw) → ((flaw : Flaw) → r ≡ Err flaw → P flaw) → ((x : A) → r ≡ Ok x → (flaw : Flaw) → ¬ P flaw) → IsJudged r P
+both_judged P (Ok x) told clear = clear x refl
+both_judged P (Err flaw) told clear = told flaw refl
+
+pub then_judged : {A B : Type 0} (P : Flaw → Type 0) (r : Result A Flaw) (step : A → Result B Flaw) → ((flaw : Flaw) → r ≡ Err flaw → P flaw) → ((x : A) → r ≡ Ok x → IsJudged (step x) P) → IsJudged (r >>= step) P
+then_judged P (Ok x) step first rest = rest x refl
+then_judged P (Err flaw) step first rest = first flaw refl
 
 -- what holds where the first step is refused, and where the next is
-pub either_step : {A B P : Type 0} (r : Result A Flaw) (step : A → Result B Flaw) (flaw : Flaw) → (r >>= step) ≡ Err flaw → (r ≡ Err flaw → P) → ((x : A) → r ≡ Ok x → step x ≡ Err flaw → P) → P
+either_step : {A B P : Type 0} (r : Result A Flaw) (step : A → Result B Flaw) (flaw : Flaw) → (r >>= step) ≡ Err flaw → (r ≡ Err flaw → P) → ((x : A) → r ≡ Ok x → step x ≡ Err flaw → P) → P
 either_step r step flaw e first rest = elim (refused_here_or_next r step flaw e) [ inl refused ↦ first refused | inr (x, went, refused) ↦ rest x went refused ]
 
 -- the same where the last step goes well
 only_step : {A B P : Type 0} (r : Result A Flaw) (made : A → B) (flaw : Flaw) → (r >>= (λ x. Ok (made x))) ≡ Err flaw → (r ≡ Err flaw → P) → P
 only_step r made flaw e first = either_step r (λ x. Ok (made x)) flaw e first (λ x went never. none_refused (made x) flaw never)
 
-pub not_passed : (b : Bool) (flaw : Flaw) → only_if b ≡ Err flaw → (b ≡ false) × (flaw ≡ here OutOfRange)
-not_passed true flaw e = absurd cc
-not_passed false flaw e = (refl, cc)
+-- of a value of a kind
+pub kind_judged : {A B : Type 0} (P : Flaw → Type 0) (o : Option A) (step : A → Result B Flaw) → (o ≡ None → P (here WrongKind)) → ((x : A) → o ≡ Some x → IsJudged (step x) P) → IsJudged (wanted o >>= step) P
+kind_judged P None step none each = none refl
+kind_judged P (Some x) step none each = each x refl
 
--- a text of which a test does not hold
-text_told : (Q : Flaw → Type 0) (test : List ℕ → Bool) (d : Data) (flaw : Flaw) → (text_of d >>= (λ s. only_if (test s))) ≡ Err flaw
-    → (as_str d ≡ None → Q (here WrongKind)) → ((s : List ℕ) → as_str d ≡ Some s → test s ≡ false → Q (here OutOfRange)) → Q flaw
-text_told Q test d flaw e none fails =
-    either_step (text_of d) (λ s. only_if (test s)) flaw e
-    (λ r. let told = wanted_refused (as_str d) flaw r in holds_of Q (here WrongKind) flaw told.1 (none told.0))
-    (λ s went r. let told = not_passed (test s) flaw r in holds_of Q (here OutOfRange) flaw told.1 (fails s (wanted_found (as_str d) s went) told.0))
+-- of a test
+pub test_judged : (P : Flaw → Type 0) (b : Bool) (f : Flaw) → (b ≡ false → P f) → (b ≡ true → (flaw : Flaw) → ¬ P flaw) → IsJudged {A = ⊤} (cond b (Ok tt) (Err f)) P
+test_judged P true f fails holds = holds refl
+test_judged P false f fails holds = fails refl
+
+-- the other way round
+pub where_judged : (P : Flaw → Type 0) (b : Bool) (f : Flaw) → (b ≡ true → P f) → (b ≡ false → (flaw : Flaw) → ¬ P flaw) → IsJudged {A = ⊤} (cond b (Err f) (Ok tt)) P
+where_judged P true f told clear = told refl
+where_judged P false f told clear = clear refl
+
+pub only_judged : (P : Flaw → Type 0) (b : Bool) → (b ≡ false → P (here OutOfRange)) → (b ≡ true → (flaw : Flaw) → ¬ P flaw) → IsJudged (only_if b) P
+only_judged P true fails holds = holds refl
+only_judged P false fails holds = fails refl
+
+-- of a text
+text_judged : (P : Flaw → Type 0) (test : List ℕ → Bool) (d : Data) → (as_str d ≡ None → P (here WrongKind)) → ((s : List ℕ) → as_str d ≡ Some s → test s ≡ false → P (here OutOfRange))
+    → ((s : List ℕ) → as_str d ≡ Some s → test s ≡ true → (flaw : Flaw) → ¬ P flaw) → IsJudged (text_of d >>= (λ s. only_if (test s))) P
+text_judged P test d none fails holds = kind_judged P (as_str d) _ none (λ s is. only_judged P (test s) (fails s is) (holds s is))
+
+-- the same flaws in other words
+pub same_judged : {A : Type 0} (P Q : Flaw → Type 0) (r : Result A Flaw) → ((flaw : Flaw) → P flaw → Q flaw) → ((flaw : Flaw) → Q flaw → P flaw) → IsJudged r P → IsJudged r Q
+same_judged P Q (Ok x) to from h = λ flaw wrong. h flaw (from flaw wrong)
+same_judged P Q (Err flaw) to from h = to flaw h
 
 -- ---- numbers
 
-whole_told : (low high : ℤ) (d : Data) (flaw : Flaw) → whole_from low high d ≡ Err flaw → IsNoWhole low high d flaw
+-- two orders that cannot both be
+not_both_ways : (a b : ℤ) → int_le a b ≡ true → b <ℤ a → ⊥
+not_both_ways a b e less = omega (arith, le-true a b e, lt_out b a less)
+
+read_excluded : (low high : ℤ) (d : Data) (z : ℤ) (flaw : Flaw) → whole_of low high d ≡ Ok z → ¬ IsNoWhole low high d flaw
+unfolding whole_of
+read_excluded low high d z flaw e (IsNoWhole.no_number none) = absurd (let h = rw none at e in cc)
+read_excluded low high d z flaw e (IsNoWhole.a_fraction y is) = absurd (let h = rw is at e in cc)
+read_excluded low high d z flaw e (IsNoWhole.too_small m y is whole small) =
+    let p = whole_there low high (Some y) z (rw (is, whole) at e) in not_both_ways low y (subst (λ x. int_le low x ≡ true) (sym (same_Some y z p.0)) p.1) small
+read_excluded low high d z flaw e (IsNoWhole.too_large m y is whole large) =
+    let p = whole_there low high (Some y) z (rw (is, whole) at e) in not_both_ways y high (subst (λ x. int_le x high ≡ true) (sym (same_Some y z p.0)) p.2) large
+
+whole_judged : (low high : ℤ) (d : Data) → IsJudged (whole_from low high d) (IsNoWhole low high d)
 unfolding whole_from
-whole_told low high d flaw e = only_step (whole_of low high d) (λ z. tt) flaw e (whole_refused low high d flaw)
+whole_judged low high d = then_judged (IsNoWhole low high d) (whole_of low high d) _ (whole_refused low high d) (λ z went flaw. read_excluded low high d z flaw went)
+
+whole_same : (d : Data) (x z : ℤ) → IsWhole d x → IsWhole d z → x ≡ z
+whole_same d x z (m, is, whole) (n, there, integer) = let same : m ≡ n = some_same (as_number d) m n is there in some_same (as_integer n) x z (ap as_integer (sym same) ∙ whole) integer
+
+pub divided : (x n : ℕ) → 0 < n → x % n ≡ 0 → n * (x / n) ≡ x
+divided x n some e = omega (arith, some, e)
+
+a_power : (z : ℤ) → is_power_of_two z ≡ true → IsPowerOfTwo z
+a_power (pos n) e =
+    let b = and_parts (nat_lt 0 n) (9223372036854775808 % n == 0) e in
+    let power = divisors_of_pow 63 n (ltb-true 0 n b.0) (eqb-true (9223372036854775808 % n) 0 b.1) in
+    (power.0, ap pos power.2)
+a_power (negsuc n) e = absurd cc
 
 no_power : (z : ℤ) → int_le z (pos 18446744073709551615) ≡ true → is_power_of_two z ≡ false → ¬ IsPowerOfTwo z
 no_power z most e (k, is) =
@@ -46,86 +102,157 @@ no_power z most e (k, is) =
           omega (arith, above, le-true (pos (2 ^ k)) (pos 18446744073709551615) below)
     ]
 
-power_told : (d : Data) (flaw : Flaw) → power_of d ≡ Err flaw → IsNoPowerOfTwo d flaw
+power_judged : (d : Data) → IsJudged (power_of d) (IsNoPowerOfTwo d)
 unfolding power_of
-power_told d flaw e =
-    either_step (whole_of (pos 1) (pos 18446744073709551615) d) _ flaw e
-    (λ r. IsNoPowerOfTwo.no_number (whole_refused (pos 1) (pos 18446744073709551615) d flaw r))
-    (λ z went r.
-    let told = not_passed (is_power_of_two z) flaw r in
+power_judged d =
+    then_judged (IsNoPowerOfTwo d) (whole_of (pos 1) (pos 18446744073709551615) d) _ (λ flaw r. IsNoPowerOfTwo.no_number (whole_refused (pos 1) (pos 18446744073709551615) d flaw r))
+    (λ z went.
     let read = whole_read (pos 1) (pos 18446744073709551615) d z went in
-    holds_of (IsNoPowerOfTwo d) (here OutOfRange) flaw told.1 (IsNoPowerOfTwo.no_power read.whole.0 z read.whole.1 read.whole.2 (no_power z read.most told.0)))
+    only_judged (IsNoPowerOfTwo d) (is_power_of_two z) (λ fails. IsNoPowerOfTwo.no_power read.whole.0 z read.whole.1 read.whole.2 (no_power z read.most fails)) (λ holds flaw wrong. elim wrong as (λ f w. ⊥) [
+      | IsNoPowerOfTwo.no_number w ↦ read_excluded (pos 1) (pos 18446744073709551615) d z _ went w
+      | IsNoPowerOfTwo.no_power m y is whole other ↦ other (subst IsPowerOfTwo (whole_same d z y read.whole (m, is, whole)) (a_power z holds))
+    ]))
+
+-- ---- kinds
+
+some_object : (d : Data) (ms : Members) (flaw : Flaw) → as_object d ≡ Some ms → ¬ IsNoObject d flaw
+some_object d ms flaw is (IsNoObject.no_object none) = some_none (as_object d) ms is none
+
+some_list : (d : Data) (ds : Items) (flaw : Flaw) → as_array d ≡ Some ds → ¬ IsNoList d flaw
+some_list d ds flaw is (IsNoList.no_list none) = some_none (as_array d) ds is none
+
+some_flag : (d : Data) (b : Bool) (flaw : Flaw) → as_bool d ≡ Some b → ¬ IsNoFlag d flaw
+some_flag d b flaw is (IsNoFlag.no_flag none) = some_none (as_bool d) b is none
+
+some_text : (d : Data) (s : List ℕ) (flaw : Flaw) → as_str d ≡ Some s → ¬ IsNoText d flaw
+some_text d s flaw is (IsNoText.no_text none) = some_none (as_str d) s is none
+
+object_judged : (d : Data) → IsJudged (any_object d) (IsNoObject d)
+unfolding any_object
+object_judged d = kind_judged (IsNoObject d) (as_object d) _ IsNoObject.no_object (λ ms is flaw. some_object d ms flaw is)
+
+feature_judged : (d : Data) → IsJudged (feature d) (IsNoFeature d)
+unfolding feature
+feature_judged (boolean b) = λ flaw wrong. absurd (let none = wrong.0 in cc)
+feature_judged d = same_judged (IsNoObject d) (IsNoFeature d) (any_object d) (λ flaw wrong. (refl, wrong)) (λ flaw wrong. wrong.1) (object_judged d)
+
+size_judged : (d : Data) → IsJudged (size_feature d) (IsNoSizeFeature d)
+unfolding size_feature
+size_judged (boolean true) = λ flaw wrong. elim wrong as (λ f w. ⊥) [ IsNoSizeFeature.no_feature w ↦ absurd (let none = w.0 in cc) | IsNoSizeFeature.is_off is ↦ absurd cc ]
+size_judged (boolean false) = IsNoSizeFeature.is_off refl
+size_judged d = same_judged (IsNoObject d) (IsNoSizeFeature d) (any_object d) (λ flaw wrong. IsNoSizeFeature.no_feature (refl, wrong))
+    (λ flaw wrong. elim wrong as (λ f w. IsNoObject d f) [ IsNoSizeFeature.no_feature w ↦ w.1 | IsNoSizeFeature.is_off is ↦ absurd cc ]) (object_judged d)
+
+items_judged : (d : Data) (ds : Items) → as_array d ≡ Some ds → IsJudged (only_if (nat_lt 0 (items_len ds))) (IsNoSomeList d)
+items_judged d no_items is = IsNoSomeList.has_none is
+items_judged d (item a ds) is =
+    only_judged (IsNoSomeList d) (nat_lt 0 (suc (items_len ds))) (λ fails. absurd (let few = ltb-false 0 (suc (items_len ds)) fails in omega (arith, few)))
+    (λ holds flaw wrong. elim wrong as (λ f w. ⊥) [ IsNoSomeList.no_list w ↦ some_list d (item a ds) _ is w | IsNoSomeList.has_none none ↦ absurd cc ])
+
+members_judged : (d : Data) (ms : Members) → as_object d ≡ Some ms → IsJudged (only_if (nat_lt 0 (members_len ms))) (IsNoSomeObject d)
+members_judged d no_members is = IsNoSomeObject.has_none is
+members_judged d (member k a ms) is =
+    only_judged (IsNoSomeObject d) (nat_lt 0 (suc (members_len ms))) (λ fails. absurd (let few = ltb-false 0 (suc (members_len ms)) fails in omega (arith, few)))
+    (λ holds flaw wrong. elim wrong as (λ f w. ⊥) [ IsNoSomeObject.no_object w ↦ some_object d (member k a ms) _ is w | IsNoSomeObject.has_none none ↦ absurd cc ])
+
+entry_judged : (d : Data) (ms : Members) → as_object d ≡ Some ms → IsJudged {A = ⊤} (cond (nat_eq (members_len ms) 1) (Ok tt) (Err (here WrongKind))) (IsNoEntry d)
+entry_judged d ms is =
+    test_judged (IsNoEntry d) (nat_eq (members_len ms) 1) (here WrongKind) (λ fails. IsNoEntry.not_one_property ms is (eqb-false (members_len ms) 1 fails)) (λ holds flaw wrong. elim wrong as (λ f w. ⊥) [
+      | IsNoEntry.no_object w ↦ some_object d ms _ is w
+      | IsNoEntry.not_one_property ns there other ↦ other (ap members_len (some_same (as_object d) ns ms there is) ∙ eqb-true (members_len ms) 1 holds)
+    ])
 
 -- ---- flags and texts
 
-default_told : (k : Known) (around : Around) → Agrees k around → (d : Data) (flaw : Flaw) → (flag_of d >>= (λ b. only_if (not (b && k.has_default)))) ≡ Err flaw → IsNoDefault around d flaw
-default_told k around h d flaw e =
-    either_step (flag_of d) _ flaw e
-    (λ r. IsNoDefault.no_flag (flag_refused d flaw r))
-    (λ b went r.
-    let told = not_passed (not (b && k.has_default)) flaw r in
-    let both = and_parts b k.has_default (let p : (b && k.has_default) ≡ true = grind (arith, nat_tests) in p) in
-    holds_of (IsNoDefault around d) (here OutOfRange) flaw told.1 (IsNoDefault.a_second (wanted_found (as_bool d) b went ∙ ap Some both.0) (h.second.0 both.1)))
+default_judged : (k : Known) (around : Around) → Agrees k around → (d : Data) → IsJudged (flag_of d >>= (λ b. only_if (not (b && k.has_default)))) (IsNoDefault around d)
+default_judged k around h d =
+    kind_judged (IsNoDefault around d) (as_bool d) _ (λ none. IsNoDefault.no_flag (IsNoFlag.no_flag none)) (λ b is.
+    only_judged (IsNoDefault around d) (not (b && k.has_default))
+    (λ fails. let both = and_parts b k.has_default (let p : (b && k.has_default) ≡ true = grind (arith, nat_tests) in p) in IsNoDefault.a_second (is ∙ ap Some both.0) (h.second.0 both.1)) (λ holds flaw wrong. elim wrong as (λ f w. ⊥) [
+      | IsNoDefault.no_flag w ↦ some_flag d b _ is w
+      | IsNoDefault.a_second on behind ↦ absurd (let before : k.has_default ≡ true = h.second.1 behind in let flag : b ≡ true = some_same (as_bool d) b true is on in let f = rw (flag, before) at holds in cc)
+    ]))
 
-control_told : (d : Data) (s : List ℕ) → as_str d ≡ Some s → is_printable s ≡ false → IsNoConfigText d (here OutOfRange)
-control_told d s is fails = let control = control_there s fails in IsNoConfigText.has_control s control.0 is control.1 control.2
+-- no character of a text that is shown is one of control
+shown_character : (s : List ℕ) (c : ℕ) → is_printable s ≡ true → Contains s c → ¬ IsControl c
+shown_character s c e (k, among, is) control =
+    let small : nat_le 32 c ≡ false = lt-leb 32 c control.0 in
+    let tested : (nat_le 32 c || nat_eq c 10 || nat_eq c 9) ≡ false = or_from (nat_le 32 c || nat_eq c 10) (nat_eq c 9) (or_from (nat_le 32 c) (nat_eq c 10) small (ne_eqb c 10 control.1)) (ne_eqb c 9 control.2) in
+    true≢false (sym e ∙ list_all_at (λ x. nat_le 32 x || nat_eq x 10 || nat_eq x 9) s k c among (ap (λ x. nat_le 32 x || nat_eq x 10 || nat_eq x 9) is ∙ tested))
+
+printable_judged : (d : Data) → IsJudged (text_of d >>= (λ s. only_if (is_printable s))) (IsNoConfigText d)
+printable_judged d =
+    text_judged (IsNoConfigText d) is_printable d IsNoConfigText.no_text (λ s is fails. let control = control_there s fails in IsNoConfigText.has_control s control.0 is control.1 control.2) (λ s is holds flaw wrong. elim wrong as (λ f w. ⊥) [
+      | IsNoConfigText.no_text none ↦ some_none (as_str d) s is none
+      | IsNoConfigText.has_control t c there among control ↦ shown_character t c (ap is_printable (some_same (as_str d) t s there is) ∙ holds) among control
+    ])
 
 pub none_there : {A : Type 0} (o : Option A) → is_some o ≡ false → o ≡ None
 none_there None e = refl
 none_there (Some x) e = absurd cc
 
-choice_told : (d : Data) (flaw : Flaw) → (text_of d >>= (λ s. only_if (bytes_eq s (codes "auto") || is_some (uuid_in s)))) ≡ Err flaw → (as_str d ≢ Some (codes "auto")) × IsNoUuid d flaw
+uuid_excluded : (d : Data) (s : List ℕ) (flaw : Flaw) → as_str d ≡ Some s → is_some (parsed s) ≡ true → ¬ IsNoUuid d flaw
+uuid_excluded d s flaw is holds (IsNoUuid.no_text none) = some_none (as_str d) s is none
+uuid_excluded d s flaw is holds (IsNoUuid.no_uuid t there none) = true≢false (sym holds ∙ ap (λ x. is_some (parsed x)) (some_same (as_str d) s t is there) ∙ ap is_some none)
+
+choice_judged : (d : Data) → IsJudged (text_of d >>= (λ s. only_if (bytes_eq s (codes "auto") || is_some (uuid_in s)))) (λ flaw. (as_str d ≢ Some (codes "auto")) × IsNoUuid d flaw)
 unfolding uuid_in
-choice_told d flaw e =
-    text_told (λ f. (as_str d ≢ Some (codes "auto")) × IsNoUuid d f) (λ s. bytes_eq s (codes "auto") || is_some (uuid_in s)) d flaw e
-    (λ none. (λ is. some_none (as_str d) (codes "auto") is none, IsNoUuid.no_text none))
+choice_judged d =
+    text_judged (λ flaw. (as_str d ≢ Some (codes "auto")) × IsNoUuid d flaw) (λ s. bytes_eq s (codes "auto") || is_some (uuid_in s)) d (λ none. (λ is. some_none (as_str d) (codes "auto") is none, IsNoUuid.no_text none))
     (λ s is fails.
     let parts = or_parts (bytes_eq s (codes "auto")) (is_some (uuid_in s)) fails in
     (λ auto. false≢true (sym parts.0 ∙ (bytes_eq-Decides s (codes "auto")).1 (some_same (as_str d) s (codes "auto") is auto)), IsNoUuid.no_uuid s is (none_there (parsed s) parts.1)))
+    (λ s is holds flaw wrong. elim (or_cases (bytes_eq s (codes "auto")) (is_some (parsed s)) holds) [
+      | inl auto ↦ wrong.0 (is ∙ ap Some ((bytes_eq-Decides s (codes "auto")).0 auto))
+      | inr read ↦ uuid_excluded d s flaw is read wrong.1
+    ])
 
 -- a word of the list is one that the list has by its bytes
 pub has_by_bytes : (words : List (List ℕ)) (w : List ℕ) → Contains words w → list_any (bytes_eq w) words ≡ true
 has_by_bytes words w (k, among, is) = list_any_at (bytes_eq w) words k w among ((bytes_eq-Decides w (get_or words k w)).1 (sym is))
 
-pub no_class_word : (cs : List ClassWord) (w : List ℕ) → is_some (class_in w cs) ≡ false → ¬ Contains (map (λ x. x.word) cs) w
-no_class_word [] w e (k, among, is) = omega (arith, among)
-no_class_word (c ∷ cs) w e (zero, among, same) = let is = (bytes_eq-Decides c.word w).1 same in absurd (let f = rw is at e in cc)
-no_class_word (c ∷ cs) w e (suc k, among, same) =
-    by_test (λ (b : Bool). is_some (cond b (Some c.place) (class_in w cs)) ≡ false → ⊥) (bytes_eq c.word w) (λ is f. absurd cc) (λ is f. no_class_word cs w f (k, omega (arith, among), same)) e
+pub word_excluded : (words : List (List ℕ)) (d : Data) (s : List ℕ) (flaw : Flaw) → as_str d ≡ Some s → Contains words s → ¬ IsNoWordOf words d flaw
+word_excluded words d s flaw is among (IsNoWordOf.no_text none) = some_none (as_str d) s is none
+word_excluded words d s flaw is among (IsNoWordOf.another_word t there other) = other (subst (Contains words) (some_same (as_str d) s t is there) among)
 
-alias_told : (levels : Members) (high : ℤ) (s : List ℕ) (flaw : Flaw) (o : Option Data) → get_member s levels ≡ o → option_map_or (whole_from (pos 0) high) o (Err (here NoSuchAlias)) ≡ Err flaw → IsNoLevel levels high (string s) flaw
-alias_told levels high s flaw None is e = holds_of (IsNoLevel levels high (string s)) (here NoSuchAlias) flaw (same_flaw flaw (here NoSuchAlias) (option_map_or (whole_from (pos 0) high) None (Err (here NoSuchAlias))) e refl) (IsNoLevel.no_alias s refl is)
-alias_told levels high s flaw (Some a) is e = IsNoLevel.alias_is_no_level s a refl is (whole_told (pos 0) high a flaw e)
+word_judged : (words : List (List ℕ)) (test : List ℕ → Bool) (d : Data) → ((s : List ℕ) → IsTrue (test s) ↔ Contains words s) → IsJudged (text_of d >>= (λ s. only_if (test s))) (IsNoWordOf words d)
+word_judged words test d same =
+    text_judged (IsNoWordOf words d) test d IsNoWordOf.no_text (λ s is fails. IsNoWordOf.another_word s is (λ among. false≢true (sym fails ∙ (same s).1 among))) (λ s is holds flaw. word_excluded words d s flaw is ((same s).0 holds))
 
-level_told : (levels : Members) (high : ℤ) (d : Data) (flaw : Flaw) → level levels high d ≡ Err flaw → IsNoLevel levels high d flaw
+no_class_word : (cs : List ClassWord) (w : List ℕ) → Contains (map (λ x. x.word) cs) w → is_some (class_in w cs) ≡ true
+no_class_word [] w (k, among, is) = absurd (omega (arith, among))
+no_class_word (c ∷ cs) w (zero, among, same) = let is = (bytes_eq-Decides c.word w).1 same in rw is refl
+no_class_word (c ∷ cs) w (suc k, among, same) = by_test (λ (b : Bool). is_some (cond b (Some c.place) (class_in w cs)) ≡ true) (bytes_eq c.word w) (λ is. refl) (λ is. no_class_word cs w (k, omega (arith, among), same))
+
+class_word_listed : (cs : List ClassWord) (w : List ℕ) → is_some (class_in w cs) ≡ true → Contains (map (λ c. c.word) cs) w
+class_word_listed [] w e = absurd cc
+class_word_listed (c ∷ cs) w e =
+    by_test (λ (b : Bool). is_some (cond b (Some c.place) (class_in w cs)) ≡ true → (is_some (class_in w cs) ≡ true → Contains (map (λ x. x.word) cs) w) → Contains (map (λ x. x.word) (c ∷ cs)) w) (bytes_eq c.word w)
+    (λ is f later. (0, omega arith, (bytes_eq-Decides c.word w).0 is)) (λ is f later. let there = later f in (suc there.0, omega (arith, there.1), there.2)) e (class_word_listed cs w)
+
+pub class_word : (s : List ℕ) → IsTrue (is_some (class_in s class_words)) ↔ Contains words_of_classes s
+class_word s = (class_word_listed class_words s, no_class_word class_words s)
+
+whole_or_text_judged : (low high : ℤ) (d : Data) → IsJudged (whole_or_text low high d) (IsNoWholeOrText low high d)
+unfolding whole_or_text
+whole_or_text_judged low high (string s) = same_judged (IsNoConfigText (string s)) (IsNoWholeOrText low high (string s)) (only_if (is_printable s)) (λ flaw wrong. IsNoWholeOrText.has_control refl wrong)
+    (λ flaw wrong. elim wrong as (λ f w. IsNoConfigText (string s) f) [ IsNoWholeOrText.no_number none w ↦ absurd cc | IsNoWholeOrText.has_control some w ↦ w ]) (printable_judged (string s))
+whole_or_text_judged low high d = same_judged (IsNoWhole low high d) (IsNoWholeOrText low high d) (whole_from low high d) (λ flaw wrong. IsNoWholeOrText.no_number refl wrong)
+    (λ flaw wrong. elim wrong as (λ f w. IsNoWhole low high d f) [ IsNoWholeOrText.no_number none w ↦ w | IsNoWholeOrText.has_control some w ↦ absurd cc ]) (whole_judged low high d)
+
+alias_is : (levels : Members) (high : ℤ) (s : List ℕ) (a : Data) (flaw : Flaw) → get_member s levels ≡ Some a → IsNoLevel levels high (string s) flaw → IsNoWhole (pos 0) high a flaw
+alias_is levels high s a flaw there (IsNoLevel.no_level none wrong) = absurd cc
+alias_is levels high s a flaw there (IsNoLevel.no_alias name is none) = let same : s ≡ name = cc in some_none (get_member name levels) a (rw same at there) none
+alias_is levels high s a flaw there (IsNoLevel.alias_is_no_level name b is found wrong) =
+    let same : s ≡ name = cc in subst (λ x. IsNoWhole (pos 0) high x flaw) (some_same (get_member name levels) b a found (rw same at there)) wrong
+
+level_judged : (levels : Members) (high : ℤ) (d : Data) → IsJudged (level levels high d) (IsNoLevel levels high d)
 unfolding level
-level_told levels high (string s) flaw e = alias_told levels high s flaw (get_member s levels) refl e
-level_told levels high d flaw e = IsNoLevel.no_level refl (whole_told (pos 0) high d flaw e)
-
--- ---- values that hold others
-
-object_told : (d : Data) (flaw : Flaw) → any_object d ≡ Err flaw → IsNoObject d flaw
-unfolding any_object
-object_told d flaw e = only_step (object_of d) (λ ms. tt) flaw e (object_refused d flaw)
-
-no_items_told : (d : Data) (ds : Items) (flaw : Flaw) → as_array d ≡ Some ds → only_if (nat_lt 0 (items_len ds)) ≡ Err flaw → IsNoSomeList d flaw
-no_items_told d no_items flaw is e = holds_of (IsNoSomeList d) (here OutOfRange) flaw (not_passed false flaw e).1 (IsNoSomeList.has_none is)
-no_items_told d (item a ds) flaw is e = absurd (let few = ltb-false 0 (suc (items_len ds)) (not_passed _ flaw e).0 in omega (arith, few))
-
-no_members_told : (d : Data) (ms : Members) (flaw : Flaw) → as_object d ≡ Some ms → only_if (nat_lt 0 (members_len ms)) ≡ Err flaw → IsNoSomeObject d flaw
-no_members_told d no_members flaw is e = holds_of (IsNoSomeObject d) (here OutOfRange) flaw (not_passed false flaw e).1 (IsNoSomeObject.has_none is)
-no_members_told d (member k a ms) flaw is e = absurd (let few = ltb-false 0 (suc (members_len ms)) (not_passed _ flaw e).0 in omega (arith, few))
-
-feature_told : (d : Data) (flaw : Flaw) → feature d ≡ Err flaw → IsNoFeature d flaw
-unfolding feature
-feature_told (boolean b) flaw e = absurd cc
-feature_told d flaw e = (refl, object_told d flaw e)
-
-size_told : (d : Data) (flaw : Flaw) → size_feature d ≡ Err flaw → IsNoSizeFeature d flaw
-unfolding size_feature
-size_told (boolean true) flaw e = absurd cc
-size_told (boolean false) flaw e = holds_of (IsNoSizeFeature (boolean false)) (here OutOfRange) flaw (not_passed false flaw e).1 (IsNoSizeFeature.is_off refl)
-size_told d flaw e = IsNoSizeFeature.no_feature (refl, object_told d flaw e)
+level_judged levels high (string s) =
+    by_found (λ (o : Option Data). IsJudged (option_map_or (whole_from (pos 0) high) o (Err (here NoSuchAlias))) (IsNoLevel levels high (string s))) (get_member s levels) (λ none. IsNoLevel.no_alias s refl none)
+    (λ a there. same_judged (IsNoWhole (pos 0) high a) (IsNoLevel levels high (string s)) (whole_from (pos 0) high a) (λ flaw wrong. IsNoLevel.alias_is_no_level s a refl there wrong) (λ flaw. alias_is levels high s a flaw there) (whole_judged (pos 0) high a))
+level_judged levels high d = same_judged (IsNoWhole (pos 0) high d) (IsNoLevel levels high d) (whole_from (pos 0) high d) (λ flaw wrong. IsNoLevel.no_level refl wrong)
+    (λ flaw wrong. elim wrong as (λ f w. IsNoWhole (pos 0) high d f) [ IsNoLevel.no_level none w ↦ w | IsNoLevel.no_alias name is none ↦ absurd cc | IsNoLevel.alias_is_no_level name a is there w ↦ absurd cc ]) (whole_judged (pos 0) high d)
 
 -- ---- ranges
 
@@ -146,6 +273,26 @@ pub number_there : (name : List ℕ) (ms : Members) (n : ℕ) → natural_in nam
 unfolding natural_in
 number_there name ms n e =
     by_found (λ (o : Option Data). option_and_then as_natural o ≡ Some n → HasNumber name ms n) (get_member name ms) (λ is f. absurd cc) (λ d is f. (d, is, f)) e
+
+pub number_found : (name : List ℕ) (ms : Members) (n : ℕ) → HasNumber name ms n → natural_in name ms ≡ Some n
+unfolding natural_in
+number_found name ms n (d, there, is) = ap (option_and_then as_natural) there ∙ is
+
+list_no_number : {P : Type 0} (d : Data) (ds : Items) (z : ℤ) → as_array d ≡ Some ds → IsWhole d z → P
+list_no_number (array es) ds z is (m, number_is, integer) = absurd cc
+list_no_number _ ds z is whole = absurd cc
+
+firsts : (d a b c e : Data) → IsPair d a b → IsPair d c e → (a ≡ c) × (b ≡ e)
+firsts d a b c e p q = let same = some_same (as_array d) (item a (item b no_items)) (item c (item e no_items)) p q in (cc, cc)
+
+-- a range that was read is the one that the value is
+range_same : (d : Data) (x y low high : ℤ) → ReadSo d x y → IsRange d low high → (x ≡ low) × (y ≡ high)
+range_same d x y low high (ReadSo.one_number z none read) (IsRange.one_number w whole) = let same = whole_same d z w (end_whole d z read) whole in (same, same)
+range_same d x y low high (ReadSo.one_number z none read) (IsRange.two_numbers a b l h pair first second) = some_none (as_array d) (item a (item b no_items)) pair none
+range_same d x y low high (ReadSo.two_numbers a b z w pair first second) (IsRange.one_number v whole) = list_no_number d (item a (item b no_items)) v pair whole
+range_same d x y low high (ReadSo.two_numbers a b z w pair first second) (IsRange.two_numbers c e l h other third fourth) =
+    let same = firsts d a b c e pair other in
+    (whole_same c z l (subst (λ v. IsWhole v z) same.0 (end_whole a z first)) third, whole_same e w h (subst (λ v. IsWhole v w) same.1 (end_whole b w second)) fourth)
 
 module _ (around : Around) where
   no_pair_told : (ds : Items) (flaw : Flaw) → items_len ds ≢ 2 → flaw ≡ here WrongKind → IsNoRange around (array ds) flaw
@@ -177,13 +324,58 @@ module _ (around : Around) where
       let p = or_parts (nat_eq n 0) (nat_lt 64 n) is_one in
       sized_so found.0 n (found.1, is, number_there (codes "size") found.1 n has, (let other = eqb-false n 0 p.0 in omega (arith, other)), (let most = ltb-false 64 n p.1 in omega (arith, most))) e)))
 
-  range_told : (numbers : _) → numbers ≡ unwrap_or (option_map (λ (e : Bool × Members). numbers_in e.0 e.1) (enumeration_around around)) all_numbers → (d : Data) (flaw : Flaw) → inside_of numbers d ≡ Err flaw → IsNoRange around d flaw
+  numbers_there : (signed : Bool) (n : ℕ) → HasBits around signed n → unwrap_or (option_map (λ (e : Bool × Members). numbers_in e.0 e.1) (enumeration_around around)) all_numbers ≡ numbers_of signed n
+  unfolding numbers_in
+  numbers_there signed n (ms, is, has, least, most) =
+      ap (λ o. unwrap_or (option_map (λ (e : Bool × Members). numbers_in e.0 e.1) o) all_numbers) is ∙ ap (λ o. option_map_or (numbers_of signed) o all_numbers) (number_found (codes "size") ms n has)
+
+  -- a range from x to y that was read, inside the numbers from least to most
+  record Inside (least most x y : ℤ) : Type 0 where
+    ascends : int_le x y ≡ true
+    above : int_le least x ≡ true
+    below : int_le y most ≡ true
+
+  inside_so : (numbers range : _) → is_inside numbers range ≡ true → Inside numbers.low numbers.high range.low range.high
+  unfolding is_inside
+  inside_so numbers range e =
+      let p = and_parts (int_le range.low range.high && int_le numbers.low range.low) (int_le range.high numbers.high) e in
+      let q = and_parts (int_le range.low range.high) (int_le numbers.low range.low) p.0 in
+      record { ascends = q.0; above = q.1; below = p.1 }
+
+  -- the numbers that the enumeration has are these
+  abbrev AreNumbers : ℤ → ℤ → Type 0
+  AreNumbers least most = (signed : Bool) (n : ℕ) → HasBits around signed n → (least ≡ lowest signed n) × (most ≡ highest signed n)
+
+  inside_excluded : (d : Data) (flaw : Flaw) (least most x y : ℤ) → AreNumbers least most → ReadSo d x y → Inside least most x y → ¬ IsNoRange around d flaw
+  inside_excluded d flaw least most x y are (ReadSo.one_number z none first) within (IsNoRange.wrong_number list wrong) = read_excluded lowest_end highest_end d z flaw first wrong
+  inside_excluded d flaw least most x y are (ReadSo.two_numbers a b z w pair first second) within (IsNoRange.wrong_number list wrong) = some_none (as_array d) (item a (item b no_items)) pair list
+  inside_excluded d flaw least most x y are (ReadSo.one_number z none first) within (IsNoRange.no_pair ds is other) = some_none (as_array d) ds is none
+  inside_excluded d flaw least most x y are (ReadSo.two_numbers a b z w pair first second) within (IsNoRange.no_pair ds is other) = other (ap items_len (some_same (as_array d) ds (item a (item b no_items)) is pair))
+  inside_excluded d flaw least most x y are (ReadSo.one_number z none first) within (IsNoRange.wrong_low a b f pair wrong) = some_none (as_array d) (item a (item b no_items)) pair none
+  inside_excluded d flaw least most x y are (ReadSo.two_numbers a b z w pair first second) within (IsNoRange.wrong_low c e f other wrong) = read_excluded lowest_end highest_end c z f (subst (λ v. end_of v ≡ Ok z) (firsts d a b c e pair other).0 first) wrong
+  inside_excluded d flaw least most x y are (ReadSo.one_number z none first) within (IsNoRange.wrong_high a b f pair wrong) = some_none (as_array d) (item a (item b no_items)) pair none
+  inside_excluded d flaw least most x y are (ReadSo.two_numbers a b z w pair first second) within (IsNoRange.wrong_high c e f other wrong) = read_excluded lowest_end highest_end e w f (subst (λ v. end_of v ≡ Ok w) (firsts d a b c e pair other).1 second) wrong
+  inside_excluded d flaw least most x y are read within (IsNoRange.low_above_high low high is less) =
+      let same = range_same d x y low high read is in
+      not_both_ways low high (sym (ap (int_le low) same.1) ∙ sym (ap (λ z. int_le z y) same.0) ∙ within.ascends) less
+  inside_excluded d flaw least most x y are read within (IsNoRange.below_the_integer low high signed n is bits less) =
+      let same = range_same d x y low high read is in
+      let numbers = are signed n bits in
+      not_both_ways (lowest signed n) low (sym (ap (int_le (lowest signed n)) same.0) ∙ sym (ap (λ z. int_le z x) numbers.0) ∙ within.above) less
+  inside_excluded d flaw least most x y are read within (IsNoRange.above_the_integer low high signed n is bits less) =
+      let same = range_same d x y low high read is in
+      let numbers = are signed n bits in
+      not_both_ways high (highest signed n) (sym (ap (λ z. int_le z (highest signed n)) same.1) ∙ sym (ap (int_le y) numbers.1) ∙ within.below) less
+
+  range_judged : (numbers : _) → numbers ≡ unwrap_or (option_map (λ (e : Bool × Members). numbers_in e.0 e.1) (enumeration_around around)) all_numbers → (d : Data) → IsJudged (inside_of numbers d) (IsNoRange around d)
   unfolding inside_of is_inside
-  range_told numbers agrees d flaw e =
-      either_step (range_of d) _ flaw e (no_range_told d flaw)
-      (λ range went r.
-      let told = refused_test (is_inside numbers range) tt (here OutOfRange) flaw r in
-      holds_of (IsNoRange around d) (here OutOfRange) flaw told.1 (outside range went (and_cases (int_le range.low range.high && int_le numbers.low range.low) (int_le range.high numbers.high) told.0)))
+  range_judged numbers agrees d =
+      then_judged (IsNoRange around d) (range_of d) _ (no_range_told d) (λ range went.
+      test_judged (IsNoRange around d) (is_inside numbers range) (here OutOfRange) (λ fails. outside range went (and_cases (int_le range.low range.high && int_le numbers.low range.low) (int_le range.high numbers.high) fails))
+      (λ holds flaw. inside_excluded d flaw numbers.low numbers.high range.low range.high (λ signed n bits.
+      let same = agrees ∙ numbers_there signed n bits in
+      let ends = some_size signed n bits.3 bits.4 in
+      (ap (λ s. s.low) same ∙ ends.0, ap (λ s. s.high) same ∙ ends.1)) (read_so d range went) (inside_so numbers range holds)))
     where
       below_one : (range : _) → range_of d ≡ Ok range → int_le numbers.low range.low ≡ false → IsNoRange around d (here OutOfRange)
       below_one range went small = let read = range_known d range.low range.high (read_so d range went) in sized (λ s. int_le s.low range.low) read.least
@@ -202,75 +394,90 @@ module _ (around : Around) where
         | inr small ↦ below_one range went small
       ]
 
--- all values
+-- ---- all values
+
 module _ (k : Known) (around : Around) (h : Agrees k around) where
-  none_told : (place : Place) (d : Data) (flaw : Flaw) → form_of k place d ≡ Err flaw → IsNoneAt around place d flaw
+  none_judged : (place : Place) (d : Data) → IsJudged (form_of k place d) (IsNoneAt around place d)
   unfolding form_of
-  none_told places.Members d flaw e = only_step (list_of d) (λ ds. tt) flaw e (list_refused d flaw)
-  none_told places.ExtraMembers d flaw e = only_step (list_of d) (λ ds. tt) flaw e (list_refused d flaw)
-  none_told places.Ranges d flaw e = either_step (list_of d) _ flaw e (λ r. IsNoSomeList.no_list (list_refused d flaw r)) (λ ds went r. no_items_told d ds flaw (wanted_found (as_array d) ds went) r)
-  none_told places.Range d flaw e = range_told around k.numbers h.numbers d flaw e
-  none_told places.Entry d flaw e =
-      either_step (object_of d) _ flaw e
-      (λ r. IsNoEntry.no_object (object_refused d flaw r))
-      (λ ms went r.
-      let told = refused_test (nat_eq (members_len ms) 1) tt (here WrongKind) flaw r in
-      holds_of (IsNoEntry d) (here WrongKind) flaw told.1 (IsNoEntry.not_one_property ms (wanted_found (as_object d) ms went) (eqb-false (members_len ms) 1 told.0)))
-  none_told places.Mappings d flaw e = either_step (object_of d) _ flaw e (λ r. IsNoSomeObject.no_object (object_refused d flaw r)) (λ ms went r. no_members_told d ms flaw (wanted_found (as_object d) ms went) r)
-  none_told places.Feature d flaw e = feature_told d flaw e
-  none_told places.MagicFeature d flaw e = feature_told d flaw e
-  none_told places.IdentifierFeature d flaw e = feature_told d flaw e
-  none_told places.SizeFeature d flaw e = size_told d flaw e
-  none_told places.Scalar d flaw e = absurd cc
-  none_told places.Ignored d flaw e = absurd cc
-  none_told _ d flaw e = object_told d flaw e
+  none_judged places.Members d = kind_judged (IsNoList d) (as_array d) _ IsNoList.no_list (λ ds is flaw. some_list d ds flaw is)
+  none_judged places.ExtraMembers d = kind_judged (IsNoList d) (as_array d) _ IsNoList.no_list (λ ds is flaw. some_list d ds flaw is)
+  none_judged places.Ranges d = kind_judged (IsNoSomeList d) (as_array d) _ (λ none. IsNoSomeList.no_list (IsNoList.no_list none)) (items_judged d)
+  none_judged places.Range d = range_judged around k.numbers h.numbers d
+  none_judged places.Entry d = kind_judged (IsNoEntry d) (as_object d) _ (λ none. IsNoEntry.no_object (IsNoObject.no_object none)) (entry_judged d)
+  none_judged places.Mappings d = kind_judged (IsNoSomeObject d) (as_object d) _ (λ none. IsNoSomeObject.no_object (IsNoObject.no_object none)) (members_judged d)
+  none_judged places.Feature d = feature_judged d
+  none_judged places.MagicFeature d = feature_judged d
+  none_judged places.IdentifierFeature d = feature_judged d
+  none_judged places.SizeFeature d = size_judged d
+  none_judged places.Scalar d = λ flaw wrong. wrong
+  none_judged places.Ignored d = λ flaw wrong. wrong
+  none_judged _ d = object_judged d
 
-  pub value_told : (content : Content) (d : Data) (flaw : Flaw) → itself_of k content d ≡ Err flaw → IsNoValueOf around content d flaw
-  unfolding itself_of leaf_of uuid_in whole_or_text
-  value_told (contents.Whole low high) d flaw e = whole_told low high d flaw e
-  value_told (contents.PowerOfTwo high) d flaw e = power_told d flaw e
-  value_told contents.Flag d flaw e = only_step (flag_of d) (λ b. tt) flaw e (flag_refused d flaw)
-  value_told contents.OneFlag d flaw e = default_told k around h d flaw e
-  value_told (contents.Text most) d flaw e = text_told (IsNoConfigText d) is_printable d flaw e IsNoConfigText.no_text (control_told d)
-  value_told contents.ClockName d flaw e = only_step (text_of d) (λ s. tt) flaw e (text_refused d flaw)
-  value_told contents.Identifier d flaw e = text_told (IsNoUuid d) (λ s. is_some (uuid_in s)) d flaw e IsNoUuid.no_text (λ s is fails. IsNoUuid.no_uuid s is (none_there (parsed s) fails))
-  value_told contents.IdentifierOrAuto d flaw e = choice_told d flaw e
-  value_told (contents.Word words) d flaw e =
-      text_told (IsNoWordOf (words_of words) d) (λ s. list_any (bytes_eq s) (words_of words)) d flaw e IsNoWordOf.no_text (λ s is fails. IsNoWordOf.another_word s is (λ c. false≢true (sym fails ∙ has_by_bytes (words_of words) s c)))
-  value_told contents.Class d flaw e =
-      text_told (IsNoWordOf words_of_classes d) (λ s. is_some (class_in s class_words)) d flaw e IsNoWordOf.no_text (λ s is fails. IsNoWordOf.another_word s is (no_class_word class_words s fails))
-  value_told (contents.WholeOrText low high most) (string s) flaw e = let told = not_passed (is_printable s) flaw e in IsNoWholeOrText.has_control refl (holds_of (IsNoConfigText (string s)) (here OutOfRange) flaw told.1 (control_told (string s) s refl told.0))
-  value_told (contents.WholeOrText low high most) d flaw e = IsNoWholeOrText.no_number refl (whole_told low high d flaw e)
-  value_told (contents.Level high) d flaw e = subst (λ levels. IsNoLevel levels high d flaw) h.levels (level_told k.levels high d flaw e)
-  value_told (contents.At place) d flaw e = none_told place d flaw e
-  value_told contents.Anything d flaw e = absurd cc
+  pub value_judged : (content : Content) (d : Data) → IsJudged (itself_of k content d) (IsNoValueOf around content d)
+  unfolding itself_of leaf_of uuid_in
+  value_judged (contents.Whole low high) d = whole_judged low high d
+  value_judged (contents.PowerOfTwo high) d = power_judged d
+  value_judged contents.Flag d = kind_judged (IsNoFlag d) (as_bool d) _ IsNoFlag.no_flag (λ b is flaw. some_flag d b flaw is)
+  value_judged contents.OneFlag d = default_judged k around h d
+  value_judged (contents.Text most) d = printable_judged d
+  value_judged contents.ClockName d = kind_judged (IsNoText d) (as_str d) _ IsNoText.no_text (λ s is flaw. some_text d s flaw is)
+  value_judged contents.Identifier d = text_judged (IsNoUuid d) (λ s. is_some (uuid_in s)) d IsNoUuid.no_text (λ s is fails. IsNoUuid.no_uuid s is (none_there (parsed s) fails)) (λ s is holds flaw. uuid_excluded d s flaw is holds)
+  value_judged contents.IdentifierOrAuto d = choice_judged d
+  value_judged (contents.Word words) d = word_judged (words_of words) (λ s. list_any (bytes_eq s) (words_of words)) d (λ s. (listed (words_of words) s, has_by_bytes (words_of words) s))
+  value_judged contents.Class d = word_judged words_of_classes (λ s. is_some (class_in s class_words)) d class_word
+  value_judged (contents.WholeOrText low high most) d = whole_or_text_judged low high d
+  value_judged (contents.Level high) d = subst (λ levels. IsJudged (level k.levels high d) (IsNoLevel levels high d)) h.levels (level_judged k.levels high d)
+  value_judged (contents.At place) d = none_judged place d
+  value_judged contents.Anything d = λ flaw wrong. wrong
 
--- the names of entries
+-- ---- the names of entries
+
+name_excluded : (name : List ℕ) (flaw : Flaw) → name_of name ≡ Ok tt → ¬ IsNoName name flaw
+unfolding name_of
+name_excluded name flaw e (IsNoName.no_identifier none) = absurd (let h = rw none at e in cc)
+name_excluded name flaw e (IsNoName.too_long long) =
+    let p = and_parts (is_identifier name) (nat_le (length name) 255) (is_passed (is_identifier name && nat_le (length name) 255) tt tt (here BadName) e).0 in omega (arith, leb-true (length name) 255 p.1, long)
+
+plain_judged : (name : List ℕ) → IsJudged (plain_name_of name) (IsNoPlainName name)
+unfolding plain_name_of is_reserved
+plain_judged name =
+    both_judged (IsNoPlainName name) (plain_name_of name) (plain_name_refused name) (λ x went flaw wrong. elim wrong as (λ f w. ⊥) [
+      | IsNoPlainName.no_name f none ↦ name_excluded name f (both_read (name_of name) _ x went).1 none
+      | IsNoPlainName.a_reserved_word reserved ↦
+          let free = or_parts (list_any (bytes_eq name) unused_keywords) (list_any (bytes_eq name) used_keywords) (under_no_test _ tt x (here ReservedName) (both_read (name_of name) _ x went).2) in
+          elim reserved [ inl there ↦ false≢true (sym free.0 ∙ has_by_bytes unused_keywords name there) | inr there ↦ false≢true (sym free.1 ∙ has_by_bytes used_keywords name there) ]
+    ])
+
 module _ (k : Known) (around : Around) (h : (name : List ℕ) → IsTrue (is_taken k.taken name) ↔ IsTaken around name) where
-  clash_told : (name : List ℕ) (d : Data) (flaw : Flaw) → free_of k.taken name d ≡ Err flaw → IsNoMemberName around name d flaw
+  clash_judged : (name : List ℕ) (d : Data) → ((flaw : Flaw) → ¬ IsNoPlainName name flaw) → IsJudged (free_of k.taken name d) (IsNoMemberName around name d)
   unfolding free_of
-  clash_told name d flaw e =
-      let told = refused_where (is_taken k.taken name || is_dynamic d && is_taken k.taken (length_name name)) tt (here NameClash) flaw e in
-      holds_of (IsNoMemberName around name d) (here NameClash) flaw told.1 (elim (or_cases (is_taken k.taken name) (is_dynamic d && is_taken k.taken (length_name name)) told.0) [
+  clash_judged name d plain =
+      let long = is_dynamic d && is_taken k.taken (length_name name) in
+      where_judged (IsNoMemberName around name d) (is_taken k.taken name || long) (here NameClash) (λ clash. elim (or_cases (is_taken k.taken name) long clash) [
         | inl taken ↦ IsNoMemberName.name_clash ((h name).0 taken)
-        | inr long ↦ let p = and_parts (is_dynamic d) (is_taken k.taken (length_name name)) long in IsNoMemberName.length_clash (dynamic_told d p.0) ((h (length_name name)).0 p.1)
+        | inr both ↦ let p = and_parts (is_dynamic d) (is_taken k.taken (length_name name)) both in IsNoMemberName.length_clash (dynamic_told d p.0) ((h (length_name name)).0 p.1)
+      ])
+      (λ free flaw wrong. let p = or_parts (is_taken k.taken name) long free in elim wrong as (λ f w. ⊥) [
+        | IsNoMemberName.no_name w ↦ plain _ w
+        | IsNoMemberName.name_clash taken ↦ false≢true (sym p.0 ∙ (h name).1 taken)
+        | IsNoMemberName.length_clash dynamic taken ↦ false≢true (sym p.1 ∙ and_from (is_dynamic d) (is_taken k.taken (length_name name)) (told_dynamic d dynamic) ((h (length_name name)).1 taken))
       ])
 
-  label_told : (name : List ℕ) (flaw : Flaw) → only_if (is_printable name) ≡ Err flaw → IsNoLabel name flaw
-  label_told name flaw e =
-      let told = not_passed (is_printable name) flaw e in
-      let control = control_there name told.0 in
-      holds_of (IsNoLabel name) (here OutOfRange) flaw told.1 (IsNoLabel.has_control control.0 control.1 control.2)
-
-  key_told : (place : Place) (by : Keys) (name : List ℕ) (d : Data) (flaw : Flaw) → key_by k place by name d ≡ Err flaw → IsNoKey around place by name d flaw
+  key_judged : (place : Place) (by : Keys) (name : List ℕ) (d : Data) → IsJudged (key_by k place by name d) (IsNoKey around place by name d)
   unfolding key_by
-  key_told place keys.Name name d flaw e = name_refused name flaw e
-  key_told places.Entry keys.PlainName name d flaw e = either_step (plain_name_of name) _ flaw e (λ r. IsNoMemberName.no_name (plain_name_refused name flaw r)) (λ x went r. clash_told name d flaw r)
-  key_told _ keys.PlainName name d flaw e = plain_name_refused name flaw e
-  key_told place keys.Label name d flaw e = label_told name flaw e
-  key_told place keys.Index name d flaw e = absurd cc
+  key_judged place keys.Name name d = both_judged (IsNoName name) (name_of name) (name_refused name) (λ x went flaw. name_excluded name flaw went)
+  key_judged places.Entry keys.PlainName name d =
+      then_judged (IsNoMemberName around name d) (plain_name_of name) _ (λ flaw r. IsNoMemberName.no_name (plain_name_refused name flaw r)) (λ x went. clash_judged name d (subst (λ r. IsJudged r (IsNoPlainName name)) went (plain_judged name)))
+  key_judged _ keys.PlainName name d = plain_judged name
+  key_judged place keys.Label name d =
+      only_judged (IsNoLabel name) (is_printable name) (λ fails. let control = control_there name fails in IsNoLabel.has_control control.0 control.1 control.2)
+      (λ holds flaw wrong. elim wrong as (λ f w. ⊥) [ IsNoLabel.has_control c among control ↦ shown_character name c holds among control ])
+  key_judged place keys.Index name d = λ flaw wrong. wrong
 
-  pub name_told : (place : Place) (name : List ℕ) (d : Data) (flaw : Flaw) → key_of k place name d ≡ Err flaw → IsNoNameAt around place name d flaw
+  pub name_judged : (place : Place) (name : List ℕ) (d : Data) → IsJudged (key_of k place name d) (IsNoNameAt around place name d)
   unfolding key_of
-  name_told place name d flaw e =
-      by_found (λ (o : Option Entries). option_map_or (λ x. key_by k place x.keys name d) o (Ok tt) ≡ Err flaw → IsNoNameAt around place name d flaw) (entries_of place) (λ is f. absurd cc) (λ entries is f. (entries, is, key_told place entries.keys name d flaw f)) e
+  name_judged place name d =
+      by_found (λ (o : Option Entries). IsJudged (option_map_or (λ x. key_by k place x.keys name d) o (Ok tt)) (IsNoNameAt around place name d)) (entries_of place)
+      (λ none flaw wrong. some_none (entries_of place) wrong.0 wrong.1 none)
+      (λ entries is. same_judged (IsNoKey around place entries.keys name d) (IsNoNameAt around place name d) (key_by k place entries.keys name d) (λ flaw wrong. (entries, is, wrong))
+      (λ flaw wrong. subst (λ x. IsNoKey around place x.keys name d flaw) (some_same (entries_of place) wrong.0 entries wrong.1 is) wrong.2) (key_judged place entries.keys name d))

@@ -1,7 +1,7 @@
 -- The words and lemmas of std and of the crates below that the proofs speak of, and those of the definitions.
 pub use Rattle.std.proofs.{Math.Bool.and-false, Math.Nat.{add-mul, mul-add, mul-mod_right, mul-one, mul-zero, one-le-mul, suc-mul, two-pow-succ, zero-mul}}
 pub use Rattle.std.proofs.{Math.Pow.pow_mono, lemmas.Bool.Decides.nat_tests}
-pub use Rattle.std.proofs.lemmas.Bool.{agree_below_at, and_cases, and_from, and_left, and_parts, and_right, cases_lt, eqb-false, eqb-true, false≢true, leb-false, leb-true, lt-leb, ltb-false, ltb-true, ne_eqb, or_cases, or_from, or_left, or_parts, or_right, true≢false}
+pub use Rattle.std.proofs.lemmas.Bool.{agree_below_at, and_cases, and_from, and_left, and_parts, and_right, cases_lt, eq-eqb, eqb-false, eqb-true, false≢true, leb-false, leb-true, lt-leb, ltb-false, ltb-true, ne_eqb, or_cases, or_from, or_left, or_parts, or_right, true≢false}
 pub use Rattle.std.proofs.{lemmas.Cmp.{nat_list_cmp_total, tied_itself}, lemmas.Float.T_from_true}
 pub use Rattle.std.proofs.lemmas.List.Elements.{All-append, All-cons, All-contains, All-from_recursion, All-map, All-nil, All-push, All-weaker}
 pub use Rattle.std.proofs.{lemmas.List.Folds.{list_all_at, list_any-append, list_any_at}, lemmas.List.{append-nil, length-map, map-append}}

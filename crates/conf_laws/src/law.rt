@@ -44,7 +44,7 @@ pub fn each_flaw_is_one()
 {}
 
 /// Where a walk over the objects tells of nothing, the table knows of no flaw.
-#[tactic(auto, using(crate::proofs::ExcludedFlaws::none_left))]
+#[tactic(auto, using(crate::proofs::TableFlawLaws::none_left))]
 pub fn no_flaw_is_left()
     ensures { (d : Data) (flaw : Flaw) → configuration_flaws d ≡ [] → ¬ IsFlawOf [] (At Root) d flaw }
 {}
