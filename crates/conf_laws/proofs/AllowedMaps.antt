@@ -237,11 +237,8 @@ enumeration_says k place signed ms size mappings known h =
     let int = integer_says k place signed ms size h in
     let p = needed_sound k place (codes "mappings") (At places.Mappings) ms (leads mappings) (needed_by mappings) h in
     let labels = some_object k p.value p.sound.value in
-    let found = optional_found (codes "mappings") ms (object labels.0) (p.found ∙ ap Some labels.1) refl in (
-      record { int = int.0; mappings = labels_in labels.0 },
-      rw (int.1, found) refl,
-      λ within. enumeration_with k signed ms (labels_in labels.0) int.0 int.2 known (mappings_good k labels.0 (subst (λ x. ContentSound k (At places.Mappings) x) labels.1 p.sound.value) (optional_within mappings ms (object labels.0) within found)),
-    )
+    let found = optional_found (codes "mappings") ms (object labels.0) (p.found ∙ ap Some labels.1) refl in
+    (record { int = int.0; mappings = labels_in labels.0 }, rw (int.1, found) refl, λ within. enumeration_with k signed ms (labels_in labels.0) int.0 int.2 known (mappings_good k labels.0 (subst (λ x. ContentSound k (At places.Mappings) x) labels.1 p.sound.value) (optional_within mappings ms (object labels.0) within found)))
 
 -- items that are good, in byte order of their names, and no more than `most`
 pub record AreAllowed {A : Type 0} (named : A → List ℕ) (good : A → Type 0) (most : ℕ) (xs : List A) : Type 0 where

@@ -104,11 +104,8 @@ array_says k ms is h inner =
     let x = inner p.value p.found k p.sound.value in
     let n = needed_natural k places.StaticArray (codes "length") 0 1048576 ms (leads Property.static_length) (needed_by Property.static_length) h (omega arith) in
     let fits : nat_le (length_of ms) 1048576 ≡ true = subst (λ o. nat_le (unwrap_or o 0) 1048576 ≡ true) (sym n.1) n.3 in
-    let said : element ms ≡ Some x.0 = element_is ms ∙ ap (option_and_then field_type) p.found ∙ x.1 in (
-      Static (chain_of x.0) (length_of ms),
-      rw (said, fits) refl,
-      λ good. array_allowed ms (ap is_static_array is) n.0 n.1 p.value x.0 p.found (x.2 (property_within Property.element ms p.value good p.found)),
-    )
+    let said : element ms ≡ Some x.0 = element_is ms ∙ ap (option_and_then field_type) p.found ∙ x.1 in
+    (Static (chain_of x.0) (length_of ms), rw (said, fits) refl, λ good. array_allowed ms (ap is_static_array is) n.0 n.1 p.value x.0 p.found (x.2 (property_within Property.element ms p.value good p.found)))
 
 -- one whose class may stand in an array, and whose own elements say something
 class_says : (k : Known) (class : Place) (ms : Members) → admits_class places.ElementType class ≡ true → class_of ms ≡ Some class → RowsSound (inside class ms k) class ms → ElementsSay ms

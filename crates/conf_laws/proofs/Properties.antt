@@ -178,11 +178,8 @@ optional_within {name = name} property ms d h there = property_within property m
 -- the first entry of a map, and those behind it
 pub entry_within : {place : Place} {content : Content} → MapPlace place content → (name : List ℕ) (d : Data) (ms : Members) → AreWithin place (member name d ms) → IsWithin content d × (key_fits place name ≡ true) × AreWithin place ms
 entry_within {place = place} {content = content} map name d ms h =
-    let first = first_limits place name d ms h.limits in (
-      value_within place name content d ((is_map map).under name) first.0 h.ascend.0,
-      within_none _ (both_none (told_by (within_limit (key_fits place name))) _ first.0).0,
-      record { limits = first.1; in_order = h.in_order.1; ascend = h.ascend.1 },
-    )
+    let first = first_limits place name d ms h.limits in
+    (value_within place name content d ((is_map map).under name) first.0 h.ascend.0, within_none _ (both_none (told_by (within_limit (key_fits place name))) _ first.0).0, record { limits = first.1; in_order = h.in_order.1; ascend = h.ascend.1 })
 
 -- the first item of a list, and those behind it
 pub item_within : (place : Place) (i : ℕ) (d : Data) (ds : Items) → AreItemsWithin place i (item d ds) → IsWithin (item_content place) d × AreItemsWithin place (suc i) ds

@@ -198,40 +198,19 @@ pub first_entry : (k : Known) (place : Place) (name : List ℕ) (content : Conte
 first_entry k place name content d ms is e =
     let both = first_flaws k place name d ms e in (property_here k place name content d (map_content place name content is) (is.stays name d) both.0, both.1)
 
--- the class that a field type has where it stands
-pub record HasClass (place : Place) (ms : Members) : Type 0 where
-  pub value : Data
-  pub word : List ℕ
-  pub class : Place
-  pub there : get_member (codes "class") ms ≡ Some value
-  pub text : as_str value ≡ Some word
-  pub found : class_in word class_words ≡ Some class
-  pub may_stand : admits_class place class ≡ true
-
 admitted_class : (place : Place) (o : Option Place) → admitted place o ≡ Ok tt → (class : Place) × (o ≡ Some class) × (admits_class place class ≡ true)
 admitted_class place None e = absurd cc
 admitted_class place (Some class) e = (class, refl, (is_passed (admits_class place class) tt tt (here (other_class place)) e).0)
 
-pub has_class : (place : Place) (ms : Members) → is_position place ≡ true → class_rule place ms ≡ Ok tt → HasClass place ms
-unfolding class_rule
+-- the class that a field type has where it stands
+has_class : (place : Place) (ms : Members) → is_position place ≡ true → class_rule place ms ≡ Ok tt → (class : Place) × (class_of ms ≡ Some class) × (admits_class place class ≡ true)
+unfolding class_rule class_of
 has_class place ms position e =
     let ruled = subst (λ b. cond b (needed (codes "class") ms >>= (λ d. at (key (codes "class")) (text_of d) >>= (λ w. admitted place (class_in w class_words)))) (Ok tt) ≡ Ok tt) position e in
     let d = both_read (needed (codes "class") ms) _ tt ruled in
     let w = both_read (at (key (codes "class")) (text_of d.0)) _ tt d.2 in
     let c = admitted_class place (class_in w.0 class_words) w.2 in
-    record {
-      value = d.0;
-      word = w.0;
-      class = c.0;
-      there = found_there (codes "class") ms d.0 d.1;
-      text = wanted_found (as_str d.0) w.0 (read_there (key (codes "class")) (text_of d.0) w.0 w.1);
-      found = c.1;
-      may_stand = c.2;
-    }
-
-pub class_there : (place : Place) (ms : Members) (c : HasClass place ms) → class_of ms ≡ Some c.class
-unfolding class_of
-class_there place ms c = ap class_said c.there ∙ ap class_named c.text ∙ c.found
+    (c.0, ap class_said (found_there (codes "class") ms d.0 d.1) ∙ ap class_named (wanted_found (as_str d.0) w.0 (read_there (key (codes "class")) (text_of d.0) w.0 w.1)) ∙ c.1, c.2)
 
 pub unsigned_told : (o : Option Place) → is_unsigned_integer o ≡ true → o ≡ Some places.UnsignedInteger
 unsigned_told (Some places.UnsignedInteger) e = refl
@@ -255,8 +234,7 @@ class_place place ms class position is =
 pub type_sound : (k : Known) (place : Place) (ms : Members) → is_position place ≡ true → ObjectSound k place ms → TypeSound k place ms
 type_sound k place ms position h =
     let c = has_class place ms position h.class_fits in
-    let is = class_there place ms c in
-    record { class = c.class; is = is; may_stand = c.may_stand; rows = rows_sound k place c.class ms (class_place place ms c.class position is) h; shape = h.shape }
+    record { class = c.0; is = c.1; may_stand = c.2; rows = rows_sound k place c.0 ms (class_place place ms c.0 position c.1) h; shape = h.shape }
 
 -- a place of objects with rows of its own
 pub record IsObject (place : Place) : Type 0 where

@@ -8,7 +8,7 @@ use Rattle.conf_laws.proofs.Numbers.{IsAlignment, alignment_or}
 use Rattle.conf_laws.proofs.Properties.{IsWithin, AreWithin, AreItemsWithin, object_within, list_within, property_within, optional_within, entry_within, item_within, fitting_parts, Property, leads, needed_by, MapPlace, is_map, OwnPlace, is_own}
 use Rattle.conf_laws.proofs.Readings.{Says, proved_says, element_is, all_joined, under_no_test, optional_found, some_there, was_so, by_found, by_test}
 use Rattle.conf_laws.proofs.Sound.{RowsSound, ContentSound, ObjectSound, object_sound, needed_sound, type_sound, class_place, object_at, content_sound, first_item, rows_sound, first_entry, optional_sound}
-use Rattle.conf_laws.proofs.Words.{admits_class, is_dynamic_array, Place, At, entries_of, at_most, itself_of, form_of, Known, inside, is_position, inner_flaws, item_flaws, member_flaws, nothing, with_taken, take, is_taken, key_of, key_by, free_of, is_dynamic, class_of, class_of_member, elements, fits, arrays_fit, is_outermost, shape_of, with_names, names_beside, own_place, place_of_properties, item_content, Members, Data, object, get_member, optional, here, WrongKind, is_passed, members_len, items_len, both_read, plain_name_of, Items, no_items, item, no_members, member, array, as_array, as_object, eqb-true, false≢true, or_parts, All-push, All-nil, All-from_recursion, list_any-append, map-append, bytes_eq-Decides, IsDistinct, option_map_or, AllByRecursion, list_any, bytes_eq, field_type, element, object_at as object_named, list as list_in, member_type, member_said as member_of, behind_done, members_behind, made, align_for, listed, align_of, structure_of, structure, extra_members, names_in, own_names, IsPlainName, IsConfigMember, AreConfigMembers, IsConfigStruct, StructType, length_name, shown_members, Auto, AtMember, Plain, Dyn, MemberType}
+use Rattle.conf_laws.proofs.Words.{admits_class, is_dynamic_array, Place, At, entries_of, at_most, itself_of, form_of, Known, inside, is_position, inner_flaws, item_flaws, member_flaws, nothing, with_taken, take, is_taken, key_of, key_by, free_of, is_dynamic, class_of, class_of_member, elements, fits, arrays_fit, is_outermost, shape_of, with_names, names_beside, own_place, place_of_properties, item_content, Members, Data, object, get_member, optional, here, WrongKind, is_passed, members_len, items_len, both_read, plain_name_of, Items, no_items, item, no_members, member, array, as_array, as_object, eqb-true, false≢true, or_parts, All-push, All-nil, All-from_recursion, map-append, bytes_eq-Decides, IsDistinct, option_map_or, AllByRecursion, list_any, bytes_eq, field_type, element, object_at as object_named, list as list_in, member_type, member_said as member_of, behind_done, members_behind, made, align_for, listed, align_of, structure_of, structure, extra_members, names_in, own_names, IsPlainName, IsConfigMember, AreConfigMembers, IsConfigStruct, StructType, length_name, shown_members, Auto, AtMember, Plain, Dyn, MemberType}
 use Rattle.conf_laws.proofs.Words.places
 
 -- ---- what a member takes
@@ -36,9 +36,6 @@ shown_last n ((other, Dyn t (AtMember i)) ∷ ms) name m = ap (λ l. other ∷ l
 abbrev AreTaken : Members → List (List ℕ) → Type 0
 AreTaken taken names = AllByRecursion (λ name. is_taken taken name ≡ true) names
 
-abbrev AreFree : Members → List (List ℕ) → Type 0
-AreFree taken names = AllByRecursion (λ name. is_taken taken name ≡ false) names
-
 takes_itself : (name : List ℕ) (taken : Members) → is_taken (take name taken) name ≡ true
 takes_itself name taken = (taken_put name name taken).1 (inl refl)
 
@@ -64,10 +61,6 @@ apart_from_taken taken name (other ∷ names) free h =
 abbrev AreApart : List (List ℕ) → List (List ℕ) → Type 0
 AreApart before names = AllByRecursion (λ name. list_any (bytes_eq name) before ≡ false) names
 
-all_apart : (taken : Members) (before names : List (List ℕ)) → AreFree taken names → AreTaken taken before → AreApart before names
-all_apart taken before [] free h = tt
-all_apart taken before (name ∷ names) free h = (apart_from_taken taken name before free.0 h, all_apart taken before names free.1 h)
-
 -- ---- names apart
 
 differ : (xs ys : List ℕ) → (xs ≡ ys → ⊥) → bytes_eq xs ys ≡ false
@@ -81,48 +74,61 @@ distinct_last (x ∷ xs) y h free =
     let p = or_parts (bytes_eq y x) (list_any (bytes_eq y) xs) free in
     (all_joined (λ z. bytes_eq x z ≡ false) xs (y ∷ []) h.0 (differ x y (λ same. false≢true (sym p.0 ∙ (bytes_eq-Decides y x).1 (sym same))), tt), distinct_last xs y h.1 p.1)
 
-distinct_more : (xs : List (List ℕ)) (name : List ℕ) (m : MemberType) → IsDistinct bytes_eq xs → AreApart xs (names_of (name, m)) → IsDistinct bytes_eq (xs ++ names_of (name, m))
-distinct_more xs name (Plain t) h free = distinct_last xs name h free.0
-distinct_more xs name (Dyn t (AtMember i)) h free = distinct_last xs name h free.0
-distinct_more xs name (Dyn t Auto) h free =
-    let first = distinct_last xs (length_name name) h free.0 in
-    let both : list_any (bytes_eq name) (xs ++ length_name name ∷ []) ≡ false = list_any-append (bytes_eq name) xs (length_name name ∷ []) ∙ rw (free.1.0, (differ name (length_name name) (λ same. let longer = ap length same in absurd (omega (arith, longer, length-append name (codes "_len")))))) refl in
-    subst (λ l. IsDistinct bytes_eq l) (append_assoc xs (length_name name ∷ []) (name ∷ [])) (distinct_last (xs ++ length_name name ∷ []) name first both)
-
--- the members so far, beside names that were taken before
-record AreNamed (before : List (List ℕ)) (ms : List (List ℕ × MemberType)) (taken : Members) : Type 0 where
-  names : All IsPlainName (names_in ms)
+-- names that are taken, apart from each other and from those that were taken before
+record AreShown (before shown : List (List ℕ)) (taken : Members) : Type 0 where
   before_taken : AreTaken taken before
-  names_taken : AreTaken taken (names_in ms)
-  shown_taken : AreTaken taken (shown_of ms)
-  distinct : IsDistinct bytes_eq (shown_of ms)
-  free : AreApart before (shown_of ms)
+  all_taken : AreTaken taken shown
+  distinct : IsDistinct bytes_eq shown
+  free : AreApart before shown
 
-none_named : (before : List (List ℕ)) (taken : Members) → AreTaken taken before → AreNamed before [] taken
-unfolding shown_members IsDistinct
-none_named before taken h = record { names = All-nil IsPlainName; before_taken = h; names_taken = tt; shown_taken = tt; distinct = tt; free = tt }
-
--- one more, where `after` has its names too
-one_more_named : (before : List (List ℕ)) (ms : List (List ℕ × MemberType)) (taken after : Members) (name : List ℕ) (m : MemberType) → AreNamed before ms taken → IsPlainName name → AreFree taken (names_of (name, m))
-    → ((names : List (List ℕ)) → AreTaken taken names → AreTaken after names) → AreTaken after (names_of (name, m)) → is_taken after name ≡ true → AreNamed before (ms ++ (name, m) ∷ []) after
-one_more_named before ms taken after name m h plain free keeps takes own =
-    let shown = shown_last 0 ms name m in
-    let named = map-append (λ (e : List ℕ × MemberType). e.0) ms ((name, m) ∷ []) in
-    record {
-      names = subst (λ l. All IsPlainName l) (sym named) (All-push IsPlainName (names_in ms) name h.names plain);
-      before_taken = keeps before h.before_taken;
-      names_taken = subst (λ l. AreTaken after l) (sym named) (all_joined (λ n. is_taken after n ≡ true) (names_in ms) (name ∷ []) (keeps (names_in ms) h.names_taken) (own, tt));
-      shown_taken = subst (λ l. AreTaken after l) (sym shown) (all_joined (λ n. is_taken after n ≡ true) (shown_of ms) (names_of (name, m)) (keeps (shown_of ms) h.shown_taken) takes);
-      distinct = subst (λ l. IsDistinct bytes_eq l) (sym shown) (distinct_more (shown_of ms) name m h.distinct (all_apart taken (shown_of ms) (names_of (name, m)) free h.shown_taken));
-      free = subst (λ l. AreApart before l) (sym shown) (all_joined (λ n. list_any (bytes_eq n) before ≡ false) (shown_of ms) (names_of (name, m)) h.free (all_apart taken before (names_of (name, m)) free h.before_taken));
-    }
-
--- ---- the type of a member
+one_shown : (before shown : List (List ℕ)) (taken : Members) (name : List ℕ) → AreShown before shown taken → is_taken taken name ≡ false → AreShown before (shown ++ name ∷ []) (take name taken)
+one_shown before shown taken name h free = record {
+  before_taken = all_still_taken name taken before h.before_taken;
+  all_taken = all_joined (λ n. is_taken (take name taken) n ≡ true) shown (name ∷ []) (all_still_taken name taken shown h.all_taken) (takes_itself name taken, tt);
+  distinct = distinct_last shown name h.distinct (apart_from_taken taken name shown free h.all_taken);
+  free = all_joined (λ n. list_any (bytes_eq n) before ≡ false) shown (name ∷ []) h.free (apart_from_taken taken name before free h.before_taken, tt);
+}
 
 -- the names that a member takes, by whether it is a dynamic array
 abbrev names_by : Bool → List ℕ → List (List ℕ)
 names_by true name = length_name name ∷ name ∷ []
 names_by false name = name ∷ []
+
+-- a name that is free is free behind that of its length
+still_free : (taken : Members) (name : List ℕ) → is_taken taken name ≡ false → is_taken (take (length_name name) taken) name ≡ false
+still_free taken name free =
+    by_test (λ (b : Bool). b ≡ false) (is_taken (take (length_name name) taken) name) (λ is. elim ((taken_put name (length_name name) taken).0 is) [
+      | inl same ↦ absurd (let longer = ap length same in omega (arith, longer, length-append name (codes "_len")))
+      | inr there ↦ absurd (false≢true (sym free ∙ there))
+    ]) (λ is. refl)
+
+member_shown : (before shown : List (List ℕ)) (taken : Members) (name : List ℕ) (b : Bool) → AreShown before shown taken → is_taken taken name ≡ false → (b && is_taken taken (length_name name)) ≡ false → AreShown before (shown ++ names_by b name) (with_member name b taken)
+member_shown before shown taken name false h free long = one_shown before shown taken name h free
+member_shown before shown taken name true h free long =
+    subst (λ l. AreShown before l (with_member name true taken)) (append_assoc shown (length_name name ∷ []) (name ∷ []))
+    (one_shown before (shown ++ length_name name ∷ []) (take (length_name name) taken) name (one_shown before shown taken (length_name name) h long) (still_free taken name free))
+
+-- the members so far
+record AreNamed (before : List (List ℕ)) (ms : List (List ℕ × MemberType)) (taken : Members) : Type 0 where
+  names : All IsPlainName (names_in ms)
+  names_taken : AreTaken taken (names_in ms)
+  shown : AreShown before (shown_of ms) taken
+
+none_named : (before : List (List ℕ)) (taken : Members) → AreTaken taken before → AreNamed before [] taken
+unfolding shown_members IsDistinct
+none_named before taken h = record { names = All-nil IsPlainName; names_taken = tt; shown = record { before_taken = h; all_taken = tt; distinct = tt; free = tt } }
+
+one_more_named : (before : List (List ℕ)) (ms : List (List ℕ × MemberType)) (taken : Members) (name : List ℕ) (b : Bool) (m : MemberType) → AreNamed before ms taken → IsPlainName name → is_taken taken name ≡ false → (b && is_taken taken (length_name name)) ≡ false
+    → names_by b name ≡ names_of (name, m) → AreNamed before (ms ++ (name, m) ∷ []) (with_member name b taken)
+one_more_named before ms taken name b m h plain free long same =
+    let named = map-append (λ (e : List ℕ × MemberType). e.0) ms ((name, m) ∷ []) in
+    record {
+      names = subst (λ l. All IsPlainName l) (sym named) (All-push IsPlainName (names_in ms) name h.names plain);
+      names_taken = subst (λ l. AreTaken (with_member name b taken) l) (sym named) (all_joined (λ n. is_taken (with_member name b taken) n ≡ true) (names_in ms) (name ∷ []) (keeps_taken name b taken (names_in ms) h.names_taken) (takes_itself name (cond b (take (length_name name) taken) taken), tt));
+      shown = subst (λ l. AreShown before l (with_member name b taken)) (ap (λ ns. shown_of ms ++ ns) same ∙ sym (shown_last 0 ms name m)) (member_shown before (shown_of ms) taken name b h.shown free long);
+    }
+
+-- ---- the type of a member
 
 abbrev IsTyped : Bool → MemberType → Type 0
 IsTyped dynamic m = (name : List ℕ) → names_by dynamic name ≡ names_of (name, m)
@@ -163,11 +169,8 @@ member_says k ms h =
           (Dyn x.0 Auto, rw (dynamic, x.1) refl, ((λ name. ap (λ b. names_by b name) dynamic), λ good. x.2 (object_within places.MemberType places.DynamicArray ms (class_place places.MemberType ms places.DynamicArray refl is) good)))
       | inr other ↦
           let plain : option_map_or is_dynamic_array (class_of ms) false ≡ false = ap (λ o. option_map_or is_dynamic_array o false) t.is ∙ other.0 in
-          let x = type_says k places.MemberType ms refl t other.1 in (
-            Plain x.0,
-            rw (plain, x.1) refl,
-            ((λ name. ap (λ b. names_by b name) plain), λ good. let nests = some_there (elements 8 (object ms)) (fitting_parts places.MemberType (object ms) good.fitting).0 in let allowed = x.2 good in (allowed.leaf, nest_allowed (object ms) x.0 allowed nests.0 nests.1)),
-          )
+          let x = type_says k places.MemberType ms refl t other.1 in
+          (Plain x.0, rw (plain, x.1) refl, ((λ name. ap (λ b. names_by b name) plain), λ good. let nests = some_there (elements 8 (object ms)) (fitting_parts places.MemberType (object ms) good.fitting).0 in let allowed = x.2 good in (allowed.leaf, nest_allowed (object ms) x.0 allowed nests.0 nests.1)))
     ]
 
 -- what the value of an entry tells of
@@ -208,14 +211,6 @@ name_judged k name d e =
     let free = or_parts (is_taken k.taken name) (is_dynamic d && is_taken k.taken (length_name name)) (under_no_test _ tt tt _ judged.2) in
     (judged.1, free.0, free.1)
 
-free_by : (taken : Members) (name : List ℕ) (b : Bool) → is_taken taken name ≡ false → (b && is_taken taken (length_name name)) ≡ false → AreFree taken (names_by b name)
-free_by taken name true own long = (long, (own, tt))
-free_by taken name false own long = (own, tt)
-
-takes_names : (name : List ℕ) (b : Bool) (taken : Members) → AreTaken (with_member name b taken) (names_by b name)
-takes_names name true taken = ((all_still_taken name (take (length_name name) taken) (length_name name ∷ []) (takes_itself (length_name name) taken, tt)).0, (takes_itself name (take (length_name name) taken), tt))
-takes_names name false taken = (takes_itself name taken, tt)
-
 -- ---- the list
 
 -- the members of a list, with those that are done before its items from place i on
@@ -239,12 +234,10 @@ module _ (k : Known) (place : Place) (before : List (List ℕ)) (entries : item_
       let rows = rows_sound j places.Entry places.Entry ms refl (object_sound j places.Entry ms (subst (λ x. inner_flaws j (At places.Entry) x ≡ []) s.2 sound.inner)) in
       let entry = (first_entry j places.Entry name (At places.Member) s.1 no_members (is_map MapPlace.entry) rows.flaws).0 in
       let m = told_says j s.1 entry.value in
-      let names = m.2.0 name in
       let judged = name_judged j name s.1 entry.named in
       let b = is_dynamic s.1 in
       let free = apart_from_taken taken name (names_in done) judged.1 h.names_taken in
-      let named = one_more_named before done taken (with_member name b taken) name m.0 h (plain_name name judged.0) (subst (λ l. AreFree taken l) names (free_by taken name b judged.1 judged.2))
-      (λ ns t. keeps_taken name b taken ns t) (subst (λ l. AreTaken (with_member name b taken) l) names (takes_names name b taken)) (takes_itself name (cond b (take (length_name name) taken) taken)) in
+      let named = one_more_named before done taken name b m.0 h (plain_name name judged.0) judged.1 judged.2 (m.2.0 name) in
       let more = done ++ (name, m.0) ∷ [] in
       let rest = items_say ds (with_member name b taken) (suc i) more named (subst (λ x. item_flaws k place (with_names x taken) (suc i) ds ≡ []) s.2 first.1) in
       let step : members_behind done (item (object ms) ds) ≡ members_behind more ds = rw (m.1, free) refl in
@@ -302,11 +295,11 @@ module _ (k : Known) {b : Bool} {around place : Place} {name : List ℕ} (proper
         all.0,
         all.1,
         (
-          named.free,
+          named.shown.free,
           λ h.
               let good = subst (λ x. IsWithin (At place) x) s.1 (optional_within property ms d h is) in
               let short = leb-true (items_len s.0) 256 (sym (m.most (items_len s.0)) ∙ (fitting_parts place (array s.0) good.fitting).1) in
-              record { types = all.2.types (All-nil (λ m. IsConfigMember m.1)) (list_within place s.0 good); names = named.names; distinct = named.distinct; few = omega (arith, counted, short) },
+              record { types = all.2.types (All-nil (λ m. IsConfigMember m.1)) (list_within place s.0 good); names = named.names; distinct = named.shown.distinct; few = omega (arith, counted, short) },
         ),
       )
 
@@ -349,11 +342,8 @@ type_structure k d h =
     let o = object_at k places.StructureType d h refl in
     let t = type_sound k places.StructureType o.ms refl o.sound in
     let same = structure_class t.class t.may_stand in
-    let s = object_says k o.ms (subst (λ p. RowsSound (inside p o.ms k) p o.ms) same t.rows) in (
-      s.0,
-      ap (λ x. option_map_or structure_of (as_object x) (made [] 1)) o.is ∙ s.1,
-      λ good. s.2 (object_within places.StructureType places.Structure o.ms (class_place places.StructureType o.ms places.Structure refl (t.is ∙ ap Some same)) (subst (λ x. IsWithin (At places.StructureType) x) o.is good)),
-    )
+    let s = object_says k o.ms (subst (λ p. RowsSound (inside p o.ms k) p o.ms) same t.rows) in
+    (s.0, ap (λ x. option_map_or structure_of (as_object x) (made [] 1)) o.is ∙ s.1, λ good. s.2 (object_within places.StructureType places.Structure o.ms (class_place places.StructureType o.ms places.Structure refl (t.is ∙ ap Some same)) (subst (λ x. IsWithin (At places.StructureType) x) o.is good)))
 
 pub structure_says : (k : Known) {b : Bool} {place : Place} {name : List ℕ} → Property b place name (At places.StructureType) → (ms : Members) → member_flaws k place ms ≡ [] → Says (structure name ms) (λ s. AreWithin place ms → IsConfigStruct s)
 unfolding structure object_named

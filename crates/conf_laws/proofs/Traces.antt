@@ -206,13 +206,9 @@ module _ {A : Type 0} {place inner : Place} (named : A → List ℕ) (good : A �
 
   map_says : (k : Known) {c : Bool} {around : Place} {name : List ℕ} → Property c around name (At place) → (ms levels : Members) → k.levels ≡ levels → member_flaws k around ms ≡ [] → Says (said_behind (of levels) [] (properties name ms)) (λ xs. AreWithin around ms → AreAllowed named good most xs)
   map_says k {name = name} property ms levels is f =
-      let types = types_say levels k is (properties name ms) [] (flaws_in k property all ms f) in (
-        types.0,
-        types.1,
-        λ h.
-            let own = all_within property all ms h in
-            map_allowed named good most (properties name ms) types.0 own.0.in_order (sym (bounded (members_len (properties name ms))) ∙ own.1) (types.2 [] own.0 (none_under named good)),
-      )
+      let types = types_say levels k is (properties name ms) [] (flaws_in k property all ms f) in
+      let few = bounded (members_len (properties name ms)) in
+      (types.0, types.1, λ h. let own = all_within property all ms h in map_allowed named good most (properties name ms) types.0 own.0.in_order (sym few ∙ own.1) (types.2 [] own.0 (none_under named good)))
 
 -- ---- event record types
 
@@ -245,11 +241,8 @@ event_says : (k : Known) (name : List ℕ) (ms : Members) → IsConfigName name 
 unfolding event_type
 event_says k name ms named f =
     let specific = structure_says k Property.specific ms f in
-    let payload = structure_says k Property.payload ms f in (
-      record { name = name; log_level = level_of k.levels (optional (codes "log-level") ms); specific = specific.0; payload = payload.0 },
-      rw (specific.1, payload.1) refl,
-      (refl, λ h. record { name = named; log_level = λ n is. level_allowed k ms n f is; specific = specific.2 h; payload = payload.2 h }),
-    )
+    let payload = structure_says k Property.payload ms f in
+    (record { name = name; log_level = level_of k.levels (optional (codes "log-level") ms); specific = specific.0; payload = payload.0 }, rw (specific.1, payload.1) refl, (refl, λ h. record { name = named; log_level = λ n is. level_allowed k ms n f is; specific = specific.2 h; payload = payload.2 h }))
 
 abbrev event_name : EventType → List ℕ
 event_name e = e.name
@@ -319,41 +312,29 @@ type_says : (k : Known) (given : Option (List ℕ)) (entries : List EnvironmentE
 unfolding draft_of_type
 type_says k given entries ms levels f =
     let header = header_says k (is_some (word (codes "uuid") ms)) (properties (codes "$features") ms) (flaws_in k Property.trace_features OwnPlace.trace_features ms f) in
-    let streams = streams_say k ms levels f in (
-      _,
-      ap (λ a. draft_with given entries ms a (stream_types ms)) header.1 ∙ ap (draft_with given entries ms (Some header.0)) streams.1,
-      λ env h. record { environment = env; clocks = clocks_allowed k ms f h; header = header.2; streams = streams.2 h },
-    )
+    let streams = streams_say k ms levels f in
+    (_, ap (λ a. draft_with given entries ms a (stream_types ms)) header.1 ∙ ap (draft_with given entries ms (Some header.0)) streams.1, λ env h. record { environment = env; clocks = clocks_allowed k ms f h; header = header.2; streams = streams.2 h })
 
 trace_says : (k : Known) (given : Option (List ℕ)) (ms : Members) → RowsSound k places.Trace ms → Says (draft_of_trace given ms) (λ draft. AreWithin places.Trace ms → IsGoodConfig draft.config)
 unfolding draft_of_trace inside properties object_named
 trace_says k given ms h =
     let t = needed_object k places.Trace places.TraceType (codes "type") ms (leads Property.trace_type) type_object h (needed_by Property.trace_type) in
-    let type = type_says (inside places.TraceType t.0 k) given (environment ms) t.0 (levels_same (optional (codes "$log-level-aliases") t.0)) t.2.flaws in (
-      type.0,
-      ap (option_and_then (draft_of_type given (environment ms))) t.1 ∙ type.1,
-      λ good. type.2 (environment_allowed k ms h.flaws good) (object_within places.TraceType places.TraceType t.0 (type_object.own t.0) (optional_within Property.trace_type ms (object t.0) good (object_there (optional (codes "type") ms) t.0 t.1))),
-    )
+    let type = type_says (inside places.TraceType t.0 k) given (environment ms) t.0 (levels_same (optional (codes "$log-level-aliases") t.0)) t.2.flaws in
+    (type.0, ap (option_and_then (draft_of_type given (environment ms))) t.1 ∙ type.1, λ good. type.2 (environment_allowed k ms h.flaws good) (object_within places.TraceType places.TraceType t.0 (type_object.own t.0) (optional_within Property.trace_type ms (object t.0) good (object_there (optional (codes "type") ms) t.0 t.1))))
 
 root_says : (k : Known) (given : Option (List ℕ)) (ms : Members) → RowsSound k places.Root ms → Says (draft_of_root given ms) (λ draft. AreWithin places.Root ms → IsGoodConfig draft.config)
 unfolding draft_of_root inside object_named
 root_says k given ms h =
     let t = needed_object k places.Root places.Trace (codes "trace") ms (leads Property.trace) (is_object OwnPlace.trace) h (needed_by Property.trace) in
-    let trace = trace_says k given t.0 t.2 in (
-      trace.0,
-      ap (option_and_then (draft_of_trace given)) t.1 ∙ trace.1,
-      λ good. trace.2 (object_within places.Trace places.Trace t.0 ((is_own OwnPlace.trace).own t.0) (optional_within Property.trace ms (object t.0) good (object_there (optional (codes "trace") ms) t.0 t.1))),
-    )
+    let trace = trace_says k given t.0 t.2 in
+    (trace.0, ap (option_and_then (draft_of_trace given)) t.1 ∙ trace.1, λ good. trace.2 (object_within places.Trace places.Trace t.0 ((is_own OwnPlace.trace).own t.0) (optional_within Property.trace ms (object t.0) good (object_there (optional (codes "trace") ms) t.0 t.1))))
 
 pub tree_says : (given : Option (List ℕ)) (d : Data) → configuration_flaws d ≡ [] → Says (draft_of given d) (λ draft. IsWithin (At places.Root) d → IsGoodConfig draft.config)
 unfolding inside
 tree_says given d f =
     let h = held_at nothing places.Root d (is_object OwnPlace.root) (content_sound nothing (At places.Root) d f) in
-    let root = root_says nothing given h.ms h.rows in (
-      root.0,
-      ap (draft_of given) h.is ∙ root.1,
-      λ good. root.2 (object_within places.Root places.Root h.ms ((is_own OwnPlace.root).own h.ms) (subst (λ x. IsWithin (At places.Root) x) h.is good)),
-    )
+    let root = root_says nothing given h.ms h.rows in
+    (root.0, ap (draft_of given) h.is ∙ root.1, λ good. root.2 (object_within places.Root places.Root h.ms ((is_own OwnPlace.root).own h.ms) (subst (λ x. IsWithin (At places.Root) x) h.is good)))
 
 -- what has no flaw says something
 pub tree_said : (given : Option (List ℕ)) (d : Data) → configuration_flaws d ≡ [] → IsSome (draft_of given d)

@@ -1,35 +1,34 @@
 -- The words and lemmas of std and of the crates below that the proofs speak of, and those of the definitions.
-pub use Rattle.std.proofs.{Math.Bool.and-false, Math.Nat.{add-mul, mul-add, mul-mod_right, mul-one, mul-zero, one-le-mul, suc-mul, two-pow-succ, zero-mul}}
-pub use Rattle.std.proofs.{Math.Pow.pow_mono, lemmas.Bool.Decides.nat_tests}
-pub use Rattle.std.proofs.lemmas.Bool.{agree_below_at, and_cases, and_from, and_left, and_parts, and_right, cases_lt, eq-eqb, eqb-false, eqb-true, false≢true, leb-false, leb-true, lt-leb, ltb-false, ltb-true, ne_eqb, or_cases, or_from, or_left, or_parts, or_right, true≢false}
-pub use Rattle.std.proofs.{lemmas.Cmp.{nat_list_cmp_total, tied_itself}, lemmas.Float.T_from_true}
+pub use Rattle.std.proofs.{Math.Bool.and-false, Math.Nat.{mul-mod_right, mul-one, one-le-mul}, Math.Pow.pow_mono}
+pub use Rattle.std.proofs.lemmas.Bool.{agree_below_at, and_cases, and_from, and_left, and_parts, and_right, cases_lt, eq-eqb, eqb-false, eqb-true, false≢true, leb-false}
+pub use Rattle.std.proofs.lemmas.Bool.{leb-true, lt-leb, ltb-false, ltb-true, ne_eqb, or_cases, or_from, or_left, or_parts, or_right, true≢false}
+pub use Rattle.std.proofs.{lemmas.Bool.Decides.nat_tests, lemmas.Cmp.{nat_list_cmp_total, tied_itself}, lemmas.Float.T_from_true}
+pub use Rattle.std.proofs.lemmas.List.{append-nil, length-map, map-append}
 pub use Rattle.std.proofs.lemmas.List.Elements.{All-append, All-cons, All-contains, All-from_recursion, All-map, All-nil, All-push, All-weaker}
-pub use Rattle.std.proofs.{lemmas.List.Folds.{list_all_at, list_any-append, list_any_at}, lemmas.List.{append-nil, length-map, map-append}}
-pub use Rattle.std.proofs.{lemmas.Map.Text.is_eq-slice_cmp, lemmas.Nat.mul-le, lemmas.Option.{cond_some, same_Some}, lemmas.Slice.Eq.bytes_eq-Decides}
-pub use Rattle.std.specs.{Cmp.Lexicographic.slice_cmp, Int.Signed.le_z_yes, List.{All, AllByRecursion, list_any}, Option.option_map_or, Ordering.match_ordering}
+pub use Rattle.std.proofs.{lemmas.List.Folds.{list_all_at, list_any-append, list_any_at}, lemmas.Map.Text.is_eq-slice_cmp, lemmas.Nat.mul-le}
+pub use Rattle.std.proofs.{lemmas.Option.{cond_some, same_Some}, lemmas.Slice.Eq.bytes_eq-Decides}
+pub use Rattle.std.specs.{Cmp.Lexicographic.slice_cmp, Int.Signed.le_z_yes, List.{All, AllByRecursion, list_any}, Option.option_map_or, Ordering.match_ordering, Prelude.⊤}
 pub use Rattle.std.specs.Str.{bytes_eq}
-unfoldable pub use Rattle.std.specs.{List.Sorted.IsStrictlySortedBy, List.IsDistinct}
+unfoldable pub use Rattle.std.specs.{List.IsDistinct, List.Sorted.IsStrictlySortedBy}
 pub use Rattle.conf_tree.specs.{Flaw.{Flaw, Place as PathPart, here, index, key, within}, Order.{AllAbove, Ascends, IsInOrder, ItemsAscend, MembersAscend}}
-pub use Rattle.conf_tree.specs.Reading.{at, flag_of, given, list_of, needed, object_of, optional, text_of, wanted, whole_or_not, ◌>>=◌}
-pub use Rattle.conf_tree.specs.Walk.{HasMember, refusal}
-pub use Rattle.conf_tree.specs.declared.fault_kind.FaultKind.TheVariants.{BadName, Limit, Missing, NameClash, NoSuchAlias, OutOfRange, ReservedName, Unknown, WrongKind}
+pub use Rattle.conf_tree.specs.{Reading.{at, flag_of, given, needed, optional, text_of, wanted, whole_or_not, ◌>>=◌}, Walk.{HasMember, refusal}}
 pub use Rattle.conf_tree.specs.declared.fault_kind.FaultKind.{FaultKind}
+pub use Rattle.conf_tree.specs.declared.fault_kind.FaultKind.TheVariants.{BadName, Limit, Missing, NameClash, NoSuchAlias, OutOfRange, ReservedName, Unknown, WrongKind}
 unfoldable pub use Rattle.conf_tree.specs.Reading.{whole_of}
-pub use Rattle.conf_values.proofs.LeafFlawLaws.{control_there, flag_refused, found_there, holds_of, lacks_refused, list_refused, listed as word_listed, name_refused, none_refused, object_refused, plain_name_refused, refused_here_or_next, refused_test, refused_there, refused_where, same_flaw, text_refused, wanted_found, wanted_refused, whole_refused}
+pub use Rattle.conf_values.proofs.LeafFlawLaws.{control_there, found_there, holds_of, lacks_refused, listed as word_listed, name_refused, none_refused, plain_name_refused}
+pub use Rattle.conf_values.proofs.LeafFlawLaws.{refused_here_or_next, refused_there, refused_where, same_flaw, wanted_found, whole_refused}
 pub use Rattle.conf_values.proofs.Steps.{both_read, is_passed, ok_same, read_there}
 pub use Rattle.conf_values.specs.LeafFlaws.{IsControl, IsNoConfigText, IsNoFlag, IsNoList, IsNoName, IsNoObject, IsNoPlainName, IsNoText, IsNoUuid, IsNoWhole, IsNoWordOf}
 pub use Rattle.conf_values.specs.{Parts.proved, Scalar.{integer_or_none, is_printable, natural_or_none}}
 unfoldable pub use Rattle.conf_values.specs.{Name.{is_reserved, name_of, plain_name_of}, Scalar.{as_natural, uuid_in}}
 pub use Rattle.serde_json.proofs.Views.{get_member-put, get_member-put_other}
-pub use Rattle.serde_json.specs.Data.{Data, Items, Members, Num, array, boolean, float, item, member, negative, no_items, no_members, null, number, object, put, string, unsigned}
+pub use Rattle.serde_json.specs.Data.{Data, Items, Members, Num, array, boolean, item, member, no_items, no_members, null, number, object, string, unsigned}
 pub use Rattle.serde_json.specs.{Events.{items_len, members_len}, Find.{as_array, as_bool, as_integer, as_number, as_object, as_str, get_item, get_member}}
 unfoldable pub use Rattle.conf_table.specs.{Classes.{admits_class, class_of, class_words, is_class}, Table.{content_under, entries_of, presence_under, rows_of}}
 unfoldable pub use Rattle.conf_table.specs.Words.{words_of}
-pub use Rattle.conf_table.specs.Classes.{ClassWord, class_in, class_named, class_said, is_dynamic_array}
-pub use Rattle.conf_table.specs.{Table.{Told, is_by_index, row_in, told_under, under_entries}, declared.place.Place.Place}
-pub use Rattle.conf_table.specs.{declared.row.Content.TheVariants.{At, Level, OneFlag, Text, Whole, WholeOrText}, declared.row.Content.Content}
-pub use Rattle.conf_table.specs.{declared.row.Entries.Entries, declared.row.Keys.TheVariants.Label, declared.row.Keys.Keys}
-pub use Rattle.conf_table.specs.{declared.row.Presence.TheVariants.Needed, declared.row.Presence.Presence}
+pub use Rattle.conf_table.specs.{Classes.{ClassWord, class_in, class_named, class_said, is_dynamic_array, is_unsigned_integer as is_unsigned_class}, Table.{Told, row_in}}
+pub use Rattle.conf_table.specs.{declared.place.Place.Place, declared.row.Content.Content, declared.row.Content.TheVariants.{At, Level, OneFlag, Text, Whole, WholeOrText}}
+pub use Rattle.conf_table.specs.{declared.row.Entries.Entries, declared.row.Keys.Keys, declared.row.Presence.Presence, declared.row.Presence.TheVariants.Needed}
 unfoldable pub use Rattle.conf_judge.specs.Flaws.{all_there, class_rule, is_left_out, orders_there, other_class, resolved_content}
 unfoldable pub use Rattle.conf_judge.specs.{Forms.{any_object, feature as feature_form, form_of, itself_of, size_feature}, Known.{behind, inside}}
 unfoldable pub use Rattle.conf_judge.specs.Leaves.{leaf_of, level, power_of, whole_from, whole_or_text}
@@ -37,47 +36,44 @@ unfoldable pub use Rattle.conf_judge.specs.Limits.{arrays_fit, fits, is_outermos
 unfoldable pub use Rattle.conf_judge.specs.Names.{free_of, is_dynamic, key_by, key_of, names_beside}
 unfoldable pub use Rattle.conf_judge.specs.Numbers.{inside_of, is_inside, natural_in, numbers_in, numbers_of, pair_of, range_of}
 unfoldable pub use Rattle.conf_judge.specs.{Places.{is_position, item_content, own_place, place_of_properties}, Shapes.{is_identifier, shape_of}}
-pub use Rattle.conf_judge.specs.Flaws.{admitted, configuration_flaws, content_flaws, inner_flaws, is_needed, is_null, item_flaws, left_out, may_inherit, member_flaws, object_flaws, property_flaws, row_there, rows_there, told_by}
-pub use Rattle.conf_judge.specs.{Known.{Known, is_true, members_or_none, nothing, says_default, with_taken}, Leaves.{is_power_of_two, only_if}}
-pub use Rattle.conf_judge.specs.Limits.{at_least_one, at_most, bytes_fit, configuration_limits, content_limits, count_of, divides, elements, elements_in_array, inner_limits, is_label, item_limits, member_limits, ranges_of, times, within_limit, ranges_in as counted_ranges}
+pub use Rattle.conf_judge.specs.Flaws.{admitted, configuration_flaws, content_flaws, inner_flaws, is_needed, is_null, item_flaws, left_out, may_inherit, member_flaws}
+pub use Rattle.conf_judge.specs.{Flaws.{property_flaws, row_there, rows_there, told_by}, Known.{Known, is_true, members_or_none, nothing, says_default, with_taken}}
+pub use Rattle.conf_judge.specs.Leaves.{is_power_of_two, only_if}
+pub use Rattle.conf_judge.specs.Limits.{at_least_one, at_most, bytes_fit, configuration_limits, content_limits, count_of, divides, elements, elements_in_array, inner_limits}
+pub use Rattle.conf_judge.specs.Limits.{is_label, item_limits, member_limits, ranges_in as counted_ranges, ranges_of, times, within_limit}
 pub use Rattle.conf_judge.specs.{Names.{class_of_member, is_taken, take, take_all, take_each, with_names}, Numbers.{all_numbers, end_of, single_of}}
 pub use Rattle.conf_judge.specs.Shapes.{element_has_bits, has_bits, is_byte, is_eight, is_number, is_static_array, is_unsigned_integer}
 unfoldable pub use Rattle.conf_draft.specs.{Alignments.alignment, Clocks.{clock_type, clock_types}, Enumerations.enumeration, Environments.environment}
-unfoldable pub use Rattle.conf_draft.specs.Events.{event_type, event_types}
-unfoldable pub use Rattle.conf_draft.specs.Features.{byte_of, context, event_header, feature, header, identifier, mapped, size, timestamp}
-unfoldable pub use Rattle.conf_draft.specs.FieldTypes.{length_of, of_class}
-unfoldable pub use Rattle.conf_draft.specs.Integers.{base_of, integer, size_of, align_of as integer_align, made as integer_made}
+unfoldable pub use Rattle.conf_draft.specs.{Events.{event_type, event_types}, Features.{byte_of, context, event_header, feature, header, identifier, mapped, size, timestamp}}
+unfoldable pub use Rattle.conf_draft.specs.{FieldTypes.{length_of, of_class}, Integers.{align_of as integer_align, base_of, integer, made as integer_made, size_of}}
 unfoldable pub use Rattle.conf_draft.specs.{Lookups.{list, natural, object as object_at, properties, word}, Members.{behind as behind_done, member_type}}
 unfoldable pub use Rattle.conf_draft.specs.{Streams.{stream_type, stream_types}, Structures.{align_of, extra_members, listed, made, structure, structure_of}}
 unfoldable pub use Rattle.conf_draft.specs.Traces.{asks_number, draft_of_root, draft_of_trace, draft_of_type}
-pub use Rattle.conf_draft.specs.{Alignments.{alignment_of, is_alignment}, Clocks.clocks_in}
-pub use Rattle.conf_draft.specs.{Enumerations.{high, labels_in, low, ranges_in, ranges_of as mappings_of, whole}, Environments.{entries_in, entry_value}}
-pub use Rattle.conf_draft.specs.Events.{event_with, level_of}
-pub use Rattle.conf_draft.specs.Features.{byte_type, context_with, event_header_with, feature_of, header_with, if_on, magic_type, number_type}
-pub use Rattle.conf_draft.specs.{FieldTypes.{element, field_type, static}, Integers.default_align, Lookups.said_behind}
-pub use Rattle.conf_draft.specs.{Members.{behind_entry, behind_named, member_of as member_said, members_behind}, Streams.{clock_of, stream_with}}
-pub use Rattle.conf_draft.specs.{Structures.align_for, Traces.{draft_of, draft_with}, declared.draft.Draft.Draft}
-unfoldable pub use Rattle.ctf_types.specs.{Allowed.elements_of, AllowedConfig.LabelsInOrder, Names.{is_identifier as is_name}, Shown.shown_members}
+pub use Rattle.conf_draft.specs.{Alignments.{alignment_of, is_alignment}, Clocks.clocks_in, Enumerations.{high, labels_in, low, ranges_in, ranges_of as mappings_of, whole}}
+pub use Rattle.conf_draft.specs.{Environments.{entries_in, entry_value}, Events.level_of, Features.{byte_type, feature_of, magic_type, number_type}}
+pub use Rattle.conf_draft.specs.{FieldTypes.{element, field_type}, Integers.default_align, Lookups.said_behind, Members.{member_of as member_said, members_behind}}
+pub use Rattle.conf_draft.specs.{Streams.clock_of, Structures.align_for, Traces.{draft_of, draft_with}, declared.draft.Draft.Draft}
+unfoldable pub use Rattle.ctf_types.specs.{Allowed.elements_of, AllowedConfig.LabelsInOrder, Names.is_identifier as is_name, Shown.shown_members}
 pub use Rattle.ctf_types.specs.Allowed.{HasBits as TypeHasBits, IsNest}
-pub use Rattle.ctf_types.specs.AllowedConfig.{AreConfigMembers, InByteOrder, IsClockType, IsConfig, IsConfigLeaf, IsConfigMember, IsConfigStruct, IsEnumeration, IsEnvironmentValue, IsPlainUnsigned, IsRangeOf, IsStreamType, OnlyIf, highest, lowest}
-pub use Rattle.ctf_types.specs.{FieldTypes.chain_of, Members.names_in, Names.{IsConfigName, IsConfigText, IsPlainName, unused_keywords, used_keywords}}
-pub use Rattle.ctf_types.specs.{Packets.own_names, Shown.length_name, declared.Base.Base, declared.ClockType.ClockType, declared.Config.Config}
-pub use Rattle.ctf_types.specs.{declared.ContextFeatures.ContextFeatures, declared.EnumType.EnumType, declared.EnvironmentEntry.EnvironmentEntry}
-pub use Rattle.ctf_types.specs.{declared.EventFeatures.EventFeatures, declared.EventType.EventType, declared.FieldType.TheVariants.{Enum, Int, Static, Str}}
-pub use Rattle.ctf_types.specs.{declared.FieldType.FieldType, declared.HeaderFeatures.HeaderFeatures, declared.IntType.IntType}
-pub use Rattle.ctf_types.specs.{declared.Length.TheVariants.{At as AtMember, Auto}, declared.Mapping.Mapping, declared.MemberType.TheVariants.{Dyn, Plain}}
-pub use Rattle.ctf_types.specs.{declared.MemberType.MemberType, declared.StreamType.StreamType, declared.StructType.StructType}
-pub use Rattle.conf_laws.specs.Around.{Around, HasBehind, HasBits, HasDefault, HasNumber, IsBehindDefault, IsBeside, IsDynamic, IsTaken, Parts, SaysDefault, TakesName, enumeration_around, item_of, levels_around, member_of}
-pub use Rattle.conf_laws.specs.Rules.{KeepsRules, KeepsStreamRules}
+pub use Rattle.ctf_types.specs.AllowedConfig.{AreConfigMembers, InByteOrder, IsClockType, IsConfig, IsConfigLeaf, IsConfigMember, IsConfigStruct, IsEnumeration}
+pub use Rattle.ctf_types.specs.{AllowedConfig.{IsEnvironmentValue, IsPlainUnsigned, IsRangeOf, IsStreamType, OnlyIf, highest, lowest}, FieldTypes.chain_of, Members.names_in}
+pub use Rattle.ctf_types.specs.{Names.{IsConfigName, IsConfigText, IsPlainName, unused_keywords, used_keywords}, Packets.own_names, Shown.length_name}
+pub use Rattle.ctf_types.specs.{declared.ClockType.ClockType, declared.Config.Config, declared.ContextFeatures.ContextFeatures, declared.EnvironmentEntry.EnvironmentEntry}
+pub use Rattle.ctf_types.specs.{declared.EventFeatures.EventFeatures, declared.EventType.EventType, declared.FieldType.FieldType}
+pub use Rattle.ctf_types.specs.{declared.FieldType.TheVariants.{Enum, Int, Static, Str}, declared.HeaderFeatures.HeaderFeatures, declared.IntType.IntType}
+pub use Rattle.ctf_types.specs.{declared.Length.TheVariants.{At as AtMember, Auto}, declared.Mapping.Mapping, declared.MemberType.MemberType}
+pub use Rattle.ctf_types.specs.{declared.MemberType.TheVariants.{Dyn, Plain}, declared.StreamType.StreamType, declared.StructType.StructType}
+pub use Rattle.conf_laws.specs.Around.{Around, HasBits, HasDefault, HasNumber, IsBehindDefault, IsBeside, IsDynamic, IsTaken, Parts, SaysDefault, TakesName}
+pub use Rattle.conf_laws.specs.{Around.{enumeration_around, item_of, levels_around, member_of}, Rules.{KeepsRules, KeepsStreamRules}}
 pub use Rattle.conf_laws.specs.TableFlaws.{HasNoBits, HasNotItsRows, IsByte, IsFlawOf, IsIdentifier, IsLeftOut, IsNoClassAt, IsNoShapeAt, IsPropertyOf}
 pub use Rattle.conf_laws.specs.TableLimits.{HasElement, HasTooManyElements, IsArray, IsLongText, IsNoPowerUpTo, Nest, PassesAt, PassesBy, PassesLimitOf, product}
-pub use Rattle.conf_laws.specs.ValueFlaws.{IsNoDefault, IsNoEntry, IsNoFeature, IsNoKey, IsNoLabel, IsNoLevel, IsNoMemberName, IsNoNameAt, IsNoPowerOfTwo, IsNoRange, IsNoSizeFeature, IsNoSomeList, IsNoSomeObject, IsNoValueOf, IsNoWholeOrText, IsNoneAt, IsPair, IsPowerOfTwo, IsRange, IsWhole, words_of_classes}
+pub use Rattle.conf_laws.specs.ValueFlaws.{IsNoDefault, IsNoEntry, IsNoFeature, IsNoKey, IsNoLabel, IsNoLevel, IsNoMemberName, IsNoNameAt, IsNoPowerOfTwo, IsNoRange}
+pub use Rattle.conf_laws.specs.ValueFlaws.{IsNoSizeFeature, IsNoSomeList, IsNoSomeObject, IsNoValueOf, IsNoWholeOrText, IsNoneAt, IsPair, IsPowerOfTwo, IsRange, IsWhole}
+pub use Rattle.conf_laws.specs.ValueFlaws.{words_of_classes}
+pub use Rattle.ctf_types.proofs.Ends.{divisors_of_pow}
+pub use Rattle.uuid.specs.Text.{parsed}
 pub use Rattle.conf_table.specs.declared.place.Place.TheVariants as places
 pub use Rattle.conf_table.specs.declared.row.Content.TheVariants as contents
 pub use Rattle.conf_table.specs.declared.row.Keys.TheVariants as keys
 pub use Rattle.conf_table.specs.declared.row.Presence.TheVariants as presences
-pub use Rattle.std.specs.Prelude.{⊤}
-pub use Rattle.conf_table.specs.Classes.{is_unsigned_integer as is_unsigned_class}
-pub use Rattle.ctf_types.proofs.Ends.{divisors_of_pow}
-pub use Rattle.uuid.specs.Text.{parsed}
 pub use borrow.Author.Differences.{below_in, le-false, le-true, lt_out}
