@@ -3,7 +3,7 @@ use Rattle.std.proofs.Common.{◌≡◌, ◌≢◌, ◌⊎◌, ◌↔◌, ◌*�
 use Rattle.conf_laws.proofs.Agreement.{Agrees, IsTrue, dynamic_told, told_dynamic}
 use Rattle.conf_laws.proofs.Numbers.{whole_read, whole_there, lowest_end, highest_end, ReadSo, read_so, end_whole, some_size}
 use Rattle.conf_laws.proofs.Readings.{some_none, some_same, by_found, by_test, under_no_test}
-use Rattle.conf_laws.proofs.Words.{Around, enumeration_around, HasNumber, HasBits, IsTaken, IsPowerOfTwo, IsNoPowerOfTwo, IsNoLevel, IsNoWholeOrText, IsNoDefault, IsWhole, IsPair, IsRange, IsNoRange, IsNoSomeList, IsNoSomeObject, IsNoEntry, IsNoFeature, IsNoSizeFeature, IsNoneAt, words_of_classes, IsNoValueOf, IsNoMemberName, IsNoLabel, IsNoKey, IsNoNameAt, ClassWord, class_words, class_in, entries_of, words_of, Place, Content, Entries, Keys, any_object, feature_form as feature, size_feature, form_of, itself_of, Known, only_if, whole_from, is_power_of_two, power_of, whole_or_text, level, leaf_of, is_dynamic, is_taken, free_of, key_by, key_of, all_numbers, natural_in, numbers_of, numbers_in, end_of, pair_of, range_of, is_inside, inside_of, Flaw, index, here, within, ◌>>=◌, at, wanted, text_of, flag_of, whole_of, WrongKind, OutOfRange, BadName, ReservedName, NameClash, NoSuchAlias, same_flaw, refused_here_or_next, refused_there, none_refused, holds_of, whole_refused, control_there, name_refused, plain_name_refused, word_listed as listed, both_read, is_passed, IsNoObject, IsNoList, IsNoText, IsNoFlag, IsNoWhole, IsNoConfigText, IsNoUuid, IsNoWordOf, IsControl, IsNoName, IsNoPlainName, name_of, is_reserved, plain_name_of, is_printable, uuid_in, as_natural, Data, boolean, string, array, Items, no_items, item, Members, no_members, member, items_len, members_len, get_member, as_object, as_array, as_str, as_bool, as_number, as_integer, pow_mono, true≢false, false≢true, and_cases, and_parts, and_from, option_map_or, or_parts, or_cases, or_from, cases_lt, eqb-false, eqb-true, ltb-false, ltb-true, leb-true, lt-leb, ne_eqb, agree_below_at, list_any_at, list_all_at, bytes_eq-Decides, list_any, bytes_eq, lowest, highest, length_name, is_name as is_identifier, unused_keywords, used_keywords, divisors_of_pow, same_Some, parsed, le-true, le-false, lt_out, below_in, nat_tests, ⊤}
+use Rattle.conf_laws.proofs.Words.{Around, enumeration_around, HasNumber, HasBits, IsTaken, IsPowerOfTwo, IsNoPowerOfTwo, IsNoLevel, IsNoWholeOrText, IsNoDefault, IsWhole, IsPair, IsRange, IsNoRange, IsNoSomeList, IsNoSomeObject, IsNoEntry, IsNoFeature, IsNoSizeFeature, IsNoneAt, words_of_classes, IsNoValueOf, IsNoMemberName, IsNoLabel, IsNoKey, IsNoNameAt, ClassWord, class_words, class_in, entries_of, words_of, Place, Content, Entries, Keys, any_object, feature_form as feature, size_feature, form_of, itself_of, Known, only_if, whole_from, is_power_of_two, power_of, whole_or_text, level, leaf_of, is_dynamic, is_taken, free_of, key_by, key_of, all_numbers, natural_in, numbers_of, numbers_in, end_of, pair_of, range_of, is_inside, inside_of, Flaw, PathPart, index, here, within, single_of, ◌>>=◌, at, wanted, text_of, flag_of, whole_of, WrongKind, OutOfRange, BadName, ReservedName, NameClash, NoSuchAlias, same_flaw, refused_here_or_next, refused_there, none_refused, holds_of, whole_refused, control_there, name_refused, plain_name_refused, word_listed as listed, both_read, is_passed, IsNoObject, IsNoList, IsNoText, IsNoFlag, IsNoWhole, IsNoConfigText, IsNoUuid, IsNoWordOf, IsControl, IsNoName, IsNoPlainName, name_of, is_reserved, plain_name_of, is_printable, uuid_in, as_natural, Data, boolean, string, array, Items, no_items, item, Members, no_members, member, items_len, members_len, get_member, as_object, as_array, as_str, as_bool, as_number, as_integer, pow_mono, true≢false, false≢true, and_cases, and_parts, and_from, option_map_or, or_parts, or_cases, or_from, cases_lt, eqb-false, eqb-true, ltb-false, ltb-true, leb-true, lt-leb, ne_eqb, agree_below_at, list_any_at, list_all_at, bytes_eq-Decides, list_any, bytes_eq, lowest, highest, length_name, is_name as is_identifier, unused_keywords, used_keywords, divisors_of_pow, same_Some, parsed, le-true, le-false, lt_out, below_in, nat_tests, ⊤}
 use Rattle.conf_laws.proofs.Words.places
 use Rattle.conf_laws.proofs.Words.contents
 use Rattle.conf_laws.proofs.Words.keys
@@ -23,13 +23,11 @@ pub then_judged : {A B : Type 0} (P : Flaw → Type 0) (r : Result A Flaw) (step
 then_judged P (Ok x) step first rest = rest x refl
 then_judged P (Err flaw) step first rest = first flaw refl
 
--- what holds where the first step is refused, and where the next is
-either_step : {A B P : Type 0} (r : Result A Flaw) (step : A → Result B Flaw) (flaw : Flaw) → (r >>= step) ≡ Err flaw → (r ≡ Err flaw → P) → ((x : A) → r ≡ Ok x → step x ≡ Err flaw → P) → P
-either_step r step flaw e first rest = elim (refused_here_or_next r step flaw e) [ inl refused ↦ first refused | inr (x, went, refused) ↦ rest x went refused ]
-
--- the same where the last step goes well
-only_step : {A B P : Type 0} (r : Result A Flaw) (made : A → B) (flaw : Flaw) → (r >>= (λ x. Ok (made x))) ≡ Err flaw → (r ≡ Err flaw → P) → P
-only_step r made flaw e first = either_step r (λ x. Ok (made x)) flaw e first (λ x went never. none_refused (made x) flaw never)
+-- of a value at a place, after whose reading two steps follow
+at_judged : {A B C : Type 0} (P : Flaw → Type 0) (place : PathPart) (r : Result A Flaw) (step : A → Result B Flaw) (last : B → Result C Flaw) → ((flaw : Flaw) → r ≡ Err flaw → P (within place flaw)) → ((x : A) → r ≡ Ok x → IsJudged (step x >>= last) P)
+    → IsJudged ((at place r >>= step) >>= last) P
+at_judged P place (Ok x) step last first rest = rest x refl
+at_judged P place (Err flaw) step last first rest = first flaw refl
 
 -- of a value of a kind
 pub kind_judged : {A B : Type 0} (P : Flaw → Type 0) (o : Option A) (step : A → Result B Flaw) → (o ≡ None → P (here WrongKind)) → ((x : A) → o ≡ Some x → IsJudged (step x) P) → IsJudged (wanted o >>= step) P
@@ -294,26 +292,12 @@ range_same d x y low high (ReadSo.two_numbers a b z w pair first second) (IsRang
     let same = firsts d a b c e pair other in
     (whole_same c z l (subst (λ v. IsWhole v z) same.0 (end_whole a z first)) third, whole_same e w h (subst (λ v. IsWhole v w) same.1 (end_whole b w second)) fourth)
 
+-- a smaller number fails the test
+fails_below : (a b : ℤ) → a <ℤ b → int_le b a ≡ false
+fails_below a b less =
+    by_test (λ (c : Bool). c ≡ false) (int_le b a) (λ is. absurd (not_both_ways b a is less)) (λ is. refl)
+
 module _ (around : Around) where
-  no_pair_told : (ds : Items) (flaw : Flaw) → items_len ds ≢ 2 → flaw ≡ here WrongKind → IsNoRange around (array ds) flaw
-  no_pair_told ds flaw other same = holds_of (IsNoRange around (array ds)) (here WrongKind) flaw same (IsNoRange.no_pair ds refl other)
-
-  pair_told : (ds : Items) (flaw : Flaw) → pair_of ds ≡ Err flaw → IsNoRange around (array ds) flaw
-  unfolding pair_of
-  pair_told (item a (item b no_items)) flaw e =
-      either_step (at (index 0) (end_of a)) _ flaw e
-      (λ r. let told = refused_there (index 0) (end_of a) flaw r in
-      holds_of (IsNoRange around (array (item a (item b no_items)))) (within (index 0) told.0) flaw told.2 (IsNoRange.wrong_low a b told.0 refl (whole_refused lowest_end highest_end a told.0 told.1)))
-      (λ x went rest. only_step (at (index 1) (end_of b)) _ flaw rest
-      (λ r. let told = refused_there (index 1) (end_of b) flaw r in
-      holds_of (IsNoRange around (array (item a (item b no_items)))) (within (index 1) told.0) flaw told.2 (IsNoRange.wrong_high a b told.0 refl (whole_refused lowest_end highest_end b told.0 told.1))))
-  pair_told ds flaw e = no_pair_told ds flaw (λ two. omega (arith, two)) (same_flaw flaw (here WrongKind) (pair_of ds) e refl)
-
-  no_range_told : (d : Data) (flaw : Flaw) → range_of d ≡ Err flaw → IsNoRange around d flaw
-  unfolding range_of
-  no_range_told (array ds) flaw e = pair_told ds flaw e
-  no_range_told d flaw e = only_step (end_of d) _ flaw e (λ r. IsNoRange.wrong_number refl (whole_refused lowest_end highest_end d flaw r))
-
   -- what holds of the numbers of the enumeration around a value, where they are not all
   sized : {P : Type 0} (test : _ → Bool) → test all_numbers ≡ true → ((signed : Bool) (n : ℕ) → HasBits around signed n → test (record { low = lowest signed n; high = highest signed n }) ≡ false → P) → test (unwrap_or (option_map (λ (e : Bool × Members). numbers_in e.0 e.1) (enumeration_around around)) all_numbers) ≡ false → P
   unfolding numbers_in numbers_of
@@ -329,70 +313,78 @@ module _ (around : Around) where
   numbers_there signed n (ms, is, has, least, most) =
       ap (λ o. unwrap_or (option_map (λ (e : Bool × Members). numbers_in e.0 e.1) o) all_numbers) is ∙ ap (λ o. option_map_or (numbers_of signed) o all_numbers) (number_found (codes "size") ms n has)
 
-  -- a range from x to y that was read, inside the numbers from least to most
-  record Inside (least most x y : ℤ) : Type 0 where
-    ascends : int_le x y ≡ true
-    above : int_le least x ≡ true
-    below : int_le y most ≡ true
+  -- a number that a configuration can hold is outside of those of the enumeration where it is outside of its integer's
+  module _ (numbers : _) (agrees : numbers ≡ unwrap_or (option_map (λ (e : Bool × Members). numbers_in e.0 e.1) (enumeration_around around)) all_numbers) (z : ℤ) where
+    ends_of : (signed : Bool) (n : ℕ) → HasBits around signed n → (numbers.low ≡ lowest signed n) × (numbers.high ≡ highest signed n)
+    ends_of signed n bits =
+        let same = agrees ∙ numbers_there signed n bits in
+        let ends = some_size signed n bits.3 bits.4 in
+        (ap (λ s. s.low) same ∙ ends.0, ap (λ s. s.high) same ∙ ends.1)
 
-  inside_so : (numbers range : _) → is_inside numbers range ≡ true → Inside numbers.low numbers.high range.low range.high
-  unfolding is_inside
-  inside_so numbers range e =
-      let p = and_parts (int_le range.low range.high && int_le numbers.low range.low) (int_le range.high numbers.high) e in
-      let q = and_parts (int_le range.low range.high) (int_le numbers.low range.low) p.0 in
-      record { ascends = q.0; above = q.1; below = p.1 }
+    below : int_le lowest_end z ≡ true → (int_le numbers.low z ≡ false) ↔ ((signed : Bool) × (n : ℕ) × HasBits around signed n × (z <ℤ lowest signed n))
+    below least = (
+      λ e. sized (λ s. int_le s.low z) least (λ signed n bits less. (signed, n, bits, below_in z (lowest signed n) (le-false (lowest signed n) z less))) (ap (λ s. int_le s.low z) (sym agrees) ∙ e),
+      λ (signed, n, bits, less). ap (λ x. int_le x z) (ends_of signed n bits).0 ∙ fails_below z (lowest signed n) less,
+    )
 
-  -- the numbers that the enumeration has are these
-  abbrev AreNumbers : ℤ → ℤ → Type 0
-  AreNumbers least most = (signed : Bool) (n : ℕ) → HasBits around signed n → (least ≡ lowest signed n) × (most ≡ highest signed n)
+    above : int_le z highest_end ≡ true → (int_le z numbers.high ≡ false) ↔ ((signed : Bool) × (n : ℕ) × HasBits around signed n × (highest signed n <ℤ z))
+    above most = (
+      λ e. sized (λ s. int_le z s.high) most (λ signed n bits more. (signed, n, bits, below_in (highest signed n) z (le-false z (highest signed n) more))) (ap (λ s. int_le z s.high) (sym agrees) ∙ e),
+      λ (signed, n, bits, more). ap (int_le z) (ends_of signed n bits).1 ∙ fails_below (highest signed n) z more,
+    )
 
-  inside_excluded : (d : Data) (flaw : Flaw) (least most x y : ℤ) → AreNumbers least most → ReadSo d x y → Inside least most x y → ¬ IsNoRange around d flaw
-  inside_excluded d flaw least most x y are (ReadSo.one_number z none first) within (IsNoRange.wrong_number list wrong) = read_excluded lowest_end highest_end d z flaw first wrong
-  inside_excluded d flaw least most x y are (ReadSo.two_numbers a b z w pair first second) within (IsNoRange.wrong_number list wrong) = some_none (as_array d) (item a (item b no_items)) pair list
-  inside_excluded d flaw least most x y are (ReadSo.one_number z none first) within (IsNoRange.no_pair ds is other) = some_none (as_array d) ds is none
-  inside_excluded d flaw least most x y are (ReadSo.two_numbers a b z w pair first second) within (IsNoRange.no_pair ds is other) = other (ap items_len (some_same (as_array d) ds (item a (item b no_items)) is pair))
-  inside_excluded d flaw least most x y are (ReadSo.one_number z none first) within (IsNoRange.wrong_low a b f pair wrong) = some_none (as_array d) (item a (item b no_items)) pair none
-  inside_excluded d flaw least most x y are (ReadSo.two_numbers a b z w pair first second) within (IsNoRange.wrong_low c e f other wrong) = read_excluded lowest_end highest_end c z f (subst (λ v. end_of v ≡ Ok z) (firsts d a b c e pair other).0 first) wrong
-  inside_excluded d flaw least most x y are (ReadSo.one_number z none first) within (IsNoRange.wrong_high a b f pair wrong) = some_none (as_array d) (item a (item b no_items)) pair none
-  inside_excluded d flaw least most x y are (ReadSo.two_numbers a b z w pair first second) within (IsNoRange.wrong_high c e f other wrong) = read_excluded lowest_end highest_end e w f (subst (λ v. end_of v ≡ Ok w) (firsts d a b c e pair other).1 second) wrong
-  inside_excluded d flaw least most x y are read within (IsNoRange.low_above_high low high is less) =
-      let same = range_same d x y low high read is in
-      not_both_ways low high (sym (ap (int_le low) same.1) ∙ sym (ap (λ z. int_le z y) same.0) ∙ within.ascends) less
-  inside_excluded d flaw least most x y are read within (IsNoRange.below_the_integer low high signed n is bits less) =
-      let same = range_same d x y low high read is in
-      let numbers = are signed n bits in
-      not_both_ways (lowest signed n) low (sym (ap (int_le (lowest signed n)) same.0) ∙ sym (ap (λ z. int_le z x) numbers.0) ∙ within.above) less
-  inside_excluded d flaw least most x y are read within (IsNoRange.above_the_integer low high signed n is bits less) =
-      let same = range_same d x y low high read is in
-      let numbers = are signed n bits in
-      not_both_ways high (highest signed n) (sym (ap (λ z. int_le z (highest signed n)) same.1) ∙ sym (ap (int_le y) numbers.1) ∙ within.below) less
+  -- outside of the numbers of the integer, or empty
+  abbrev IsOutside : ℤ → ℤ → Type 0
+  IsOutside x y = (y <ℤ x) ⊎ (((signed : Bool) × (n : ℕ) × HasBits around signed n × (x <ℤ lowest signed n)) ⊎ ((signed : Bool) × (n : ℕ) × HasBits around signed n × (highest signed n <ℤ y)))
 
-  range_judged : (numbers : _) → numbers ≡ unwrap_or (option_map (λ (e : Bool × Members). numbers_in e.0 e.1) (enumeration_around around)) all_numbers → (d : Data) → IsJudged (inside_of numbers d) (IsNoRange around d)
-  unfolding inside_of is_inside
-  range_judged numbers agrees d =
-      then_judged (IsNoRange around d) (range_of d) _ (no_range_told d) (λ range went.
-      test_judged (IsNoRange around d) (is_inside numbers range) (here OutOfRange) (λ fails. outside range went (and_cases (int_le range.low range.high && int_le numbers.low range.low) (int_le range.high numbers.high) fails))
-      (λ holds flaw. inside_excluded d flaw numbers.low numbers.high range.low range.high (λ signed n bits.
-      let same = agrees ∙ numbers_there signed n bits in
-      let ends = some_size signed n bits.3 bits.4 in
-      (ap (λ s. s.low) same ∙ ends.0, ap (λ s. s.high) same ∙ ends.1)) (read_so d range went) (inside_so numbers range holds)))
-    where
-      below_one : (range : _) → range_of d ≡ Ok range → int_le numbers.low range.low ≡ false → IsNoRange around d (here OutOfRange)
-      below_one range went small = let read = range_known d range.low range.high (read_so d range went) in sized (λ s. int_le s.low range.low) read.least
-          (λ signed n bits less. IsNoRange.below_the_integer range.low range.high signed n read.is bits (below_in range.low (lowest signed n) (le-false (lowest signed n) range.low less)))
-          (ap (λ s. int_le s.low range.low) (sym agrees) ∙ small)
+  inside_excluded : (d : Data) (flaw : Flaw) (x y : ℤ) → ReadSo d x y → ¬ IsOutside x y → ¬ IsNoRange around d flaw
+  inside_excluded d flaw x y (ReadSo.one_number z none first) inside (IsNoRange.wrong_number list wrong) = read_excluded lowest_end highest_end d z flaw first wrong
+  inside_excluded d flaw x y (ReadSo.two_numbers a b z w pair first second) inside (IsNoRange.wrong_number list wrong) = some_none (as_array d) (item a (item b no_items)) pair list
+  inside_excluded d flaw x y (ReadSo.one_number z none first) inside (IsNoRange.no_pair ds is other) = some_none (as_array d) ds is none
+  inside_excluded d flaw x y (ReadSo.two_numbers a b z w pair first second) inside (IsNoRange.no_pair ds is other) = other (ap items_len (some_same (as_array d) ds (item a (item b no_items)) is pair))
+  inside_excluded d flaw x y (ReadSo.one_number z none first) inside (IsNoRange.wrong_low a b f pair wrong) = some_none (as_array d) (item a (item b no_items)) pair none
+  inside_excluded d flaw x y (ReadSo.two_numbers a b z w pair first second) inside (IsNoRange.wrong_low c e f other wrong) = read_excluded lowest_end highest_end c z f (subst (λ v. end_of v ≡ Ok z) (firsts d a b c e pair other).0 first) wrong
+  inside_excluded d flaw x y (ReadSo.one_number z none first) inside (IsNoRange.wrong_high a b f pair wrong) = some_none (as_array d) (item a (item b no_items)) pair none
+  inside_excluded d flaw x y (ReadSo.two_numbers a b z w pair first second) inside (IsNoRange.wrong_high c e f other wrong) = read_excluded lowest_end highest_end e w f (subst (λ v. end_of v ≡ Ok w) (firsts d a b c e pair other).1 second) wrong
+  inside_excluded d flaw x y read inside (IsNoRange.low_above_high low high is less) = let same = range_same d x y low high read is in inside (inl (subst (λ z. y <ℤ z) (sym same.0) (subst (λ z. z <ℤ low) (sym same.1) less)))
+  inside_excluded d flaw x y read inside (IsNoRange.below_the_integer low high signed n is bits less) = inside (inr (inl (signed, n, bits, subst (λ z. z <ℤ lowest signed n) (sym (range_same d x y low high read is).0) less)))
+  inside_excluded d flaw x y read inside (IsNoRange.above_the_integer low high signed n is bits more) = inside (inr (inr (signed, n, bits, subst (λ z. highest signed n <ℤ z) (sym (range_same d x y low high read is).1) more)))
 
-      above_one : (range : _) → range_of d ≡ Ok range → int_le range.high numbers.high ≡ false → IsNoRange around d (here OutOfRange)
-      above_one range went large = let read = range_known d range.low range.high (read_so d range went) in sized (λ s. int_le range.high s.high) read.most
-          (λ signed n bits more. IsNoRange.above_the_integer range.low range.high signed n read.is bits (below_in (highest signed n) range.high (le-false range.high (highest signed n) more)))
-          (ap (λ s. int_le range.high s.high) (sym agrees) ∙ large)
+  module _ (numbers : _) (agrees : numbers ≡ unwrap_or (option_map (λ (e : Bool × Members). numbers_in e.0 e.1) (enumeration_around around)) all_numbers) where
+    read_judged : (d : Data) (range : _) → range_of d ≡ Ok range → IsJudged {A = ⊤} (cond (is_inside numbers range) (Ok tt) (Err (here OutOfRange))) (IsNoRange around d)
+    unfolding is_inside
+    read_judged d range went =
+        let so = read_so d range went in
+        let x = range.low in
+        let y = range.high in
+        let read = range_known d x y so in
+        let low = below numbers agrees x read.least in
+        let high = above numbers agrees y read.most in
+        test_judged (IsNoRange around d) (int_le x y && int_le numbers.low x && int_le y numbers.high) (here OutOfRange) (λ fails. elim (and_cases (int_le x y && int_le numbers.low x) (int_le y numbers.high) fails) [
+          | inr large ↦ let o = high.0 large in IsNoRange.above_the_integer x y o.0 o.1 read.is o.2 o.3
+          | inl either ↦ elim (and_cases (int_le x y) (int_le numbers.low x) either) [
+            | inl empty ↦ IsNoRange.low_above_high x y read.is (below_in y x (le-false x y empty))
+            | inr small ↦ let o = low.0 small in IsNoRange.below_the_integer x y o.0 o.1 read.is o.2 o.3
+          ]
+        ]) (λ holds flaw.
+        let p = and_parts (int_le x y && int_le numbers.low x) (int_le y numbers.high) holds in
+        let q = and_parts (int_le x y) (int_le numbers.low x) p.0 in
+        inside_excluded d flaw x y so (λ outside. elim outside [
+          | inl empty ↦ not_both_ways x y q.0 empty
+          | inr (inl small) ↦ false≢true (sym (low.1 small) ∙ q.1)
+          | inr (inr large) ↦ false≢true (sym (high.1 large) ∙ p.1)
+        ]))
 
-      outside : (range : _) → range_of d ≡ Ok range → ((int_le range.low range.high && int_le numbers.low range.low) ≡ false) ⊎ (int_le range.high numbers.high ≡ false) → IsNoRange around d (here OutOfRange)
-      outside range went (inr large) = above_one range went large
-      outside range went (inl either) = elim (and_cases (int_le range.low range.high) (int_le numbers.low range.low) either) [
-        | inl empty ↦ IsNoRange.low_above_high range.low range.high (range_known d range.low range.high (read_so d range went)).is (below_in range.high range.low (le-false range.low range.high empty))
-        | inr small ↦ below_one range went small
-      ]
+    range_judged : (d : Data) → IsJudged (inside_of numbers d) (IsNoRange around d)
+    unfolding inside_of range_of pair_of
+    range_judged (array (item a (item b no_items))) =
+        let d = array (item a (item b no_items)) in
+        at_judged (IsNoRange around d) (index 0) (end_of a) _ _ (λ flaw r. IsNoRange.wrong_low a b flaw refl (whole_refused lowest_end highest_end a flaw r)) (λ x first.
+        at_judged (IsNoRange around d) (index 1) (end_of b) _ _ (λ flaw r. IsNoRange.wrong_high a b flaw refl (whole_refused lowest_end highest_end b flaw r)) (λ y second. read_judged d (record { low = x; high = y }) (rw (first, second) refl)))
+    range_judged (array ds) = IsNoRange.no_pair ds refl (λ two. omega (arith, two))
+    range_judged d =
+        then_judged (IsNoRange around d) (single_of d) _ (λ flaw r. elim (refused_here_or_next (end_of d) _ flaw r) [ inl none ↦ IsNoRange.wrong_number refl (whole_refused lowest_end highest_end d flaw none) | inr (x, went, never) ↦ none_refused _ flaw never ])
+        (λ range went. read_judged d range went)
 
 -- ---- all values
 
