@@ -12,5 +12,4 @@ pub mod TableFlawLaws
 pub mod Agreement
 pub mod ValueFlawLaws
 pub mod TableLimitLaws
-pub mod ExcludedLimits
 pub mod Worked

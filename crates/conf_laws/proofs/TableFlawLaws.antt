@@ -6,7 +6,7 @@ use Rattle.conf_laws.proofs.Numbers.{number_told}
 use Rattle.conf_laws.proofs.Readings.{some_none, some_same, element_bits, by_element, by_found, by_test}
 use Rattle.conf_laws.proofs.Sound.{both_none, first_none, optional_there, unsigned_told}
 use Rattle.conf_laws.proofs.ValueFlawLaws.{IsJudged, then_judged, test_judged, only_judged, same_judged, none_there, number_there, number_found, class_word, word_excluded, value_judged, name_judged}
-use Rattle.conf_laws.proofs.Words.{HasNumber, Around, Parts, member_of, item_of, IsPropertyOf, IsLeftOut, IsNoClassAt, HasNotItsRows, IsByte, IsIdentifier, HasNoBits, IsNoShapeAt, IsFlawOf, IsNoValueOf, IsNoNameAt, words_of_classes, class_words, class_in, admits_class, content_under, presence_under, Told, rows_of, entries_of, Place, At, Content, Presence, Entries, class_named, class_of, class_said, other_class, may_inherit, resolved_content, is_needed, left_out, is_left_out, admitted, class_rule, row_there, rows_there, orders_there, all_there, told_by, property_flaws, inner_flaws, item_flaws, member_flaws, content_flaws, configuration_flaws, itself_of, Known, nothing, inside, behind, with_taken, key_of, names_beside, with_names, natural_in, is_position, place_of_properties, item_content, is_number, is_unsigned_integer, is_static_array, is_eight, is_byte, is_identifier, has_bits, element_has_bits, shape_of, Flaw, PathPart, key, here, within, index, ◌>>=◌, at, wanted, needed, optional, given, text_of, HasMember, refusal, WrongKind, OutOfRange, Missing, Unknown, refused_where, lacks_refused, found_there, IsNoWordOf, as_natural, Data, null, object, Members, array, Items, no_items, item, no_members, member, get_member, get_item, as_str, nat_tests, true≢false, false≢true, and-false, and_parts, and_from, and_cases, or_parts, eq-eqb, All-nil, All-cons, All-map, All-append, All-weaker, All-contains, bytes_eq-Decides, All, option_map_or, bytes_eq, ⊤}
+use Rattle.conf_laws.proofs.Words.{HasNumber, Around, Parts, HasBehind, member_of, item_of, IsPropertyOf, IsLeftOut, IsNoClassAt, HasNotItsRows, IsByte, IsIdentifier, HasNoBits, IsNoShapeAt, IsFlawOf, IsNoValueOf, IsNoNameAt, words_of_classes, class_words, class_in, admits_class, content_under, presence_under, Told, rows_of, entries_of, Place, At, Content, Presence, Entries, class_named, class_of, class_said, other_class, may_inherit, resolved_content, is_needed, left_out, is_left_out, admitted, class_rule, row_there, rows_there, orders_there, all_there, told_by, property_flaws, inner_flaws, item_flaws, member_flaws, content_flaws, configuration_flaws, itself_of, Known, nothing, inside, behind, with_taken, key_of, names_beside, with_names, natural_in, is_position, place_of_properties, item_content, is_number, is_unsigned_integer, is_static_array, is_eight, is_byte, is_identifier, has_bits, element_has_bits, shape_of, Flaw, PathPart, key, here, within, index, ◌>>=◌, at, wanted, needed, optional, given, text_of, HasMember, refusal, WrongKind, OutOfRange, Missing, Unknown, refused_where, lacks_refused, found_there, IsNoWordOf, as_natural, Data, null, object, Members, array, Items, no_items, item, no_members, member, get_member, get_item, as_str, nat_tests, true≢false, false≢true, and-false, and_parts, and_from, and_cases, or_parts, eq-eqb, All-nil, All-cons, All-map, All-append, All-weaker, All-contains, bytes_eq-Decides, All, option_map_or, bytes_eq, ⊤}
 use Rattle.conf_laws.proofs.Words.places
 use Rattle.conf_laws.proofs.Words.contents
 use Rattle.conf_laws.proofs.Words.presences
@@ -234,7 +234,7 @@ shape_judged _ ms = λ flaw wrong. elim wrong as (λ f w. ⊥) [ IsNoShapeAt.no_
 abbrev pub Tell : (Flaw → Type 0) → List Flaw → Type 0
 Tell P flaws = All P flaws × (flaws ≡ [] → (flaw : Flaw) → ¬ P flaw)
 
-judged_tell : (P : Flaw → Type 0) (r : Result ⊤ Flaw) → IsJudged r P → Tell P (told_by r)
+pub judged_tell : (P : Flaw → Type 0) (r : Result ⊤ Flaw) → IsJudged r P → Tell P (told_by r)
 judged_tell P (Ok x) h = (All-nil P, λ e. h)
 judged_tell P (Err flaw) h = (All-cons P flaw [] h (All-nil P), λ e. absurd cc)
 
@@ -259,7 +259,53 @@ seen_tell P Q seen xs ys p q = (
 pub same_tell : (P Q : Flaw → Type 0) (xs : List Flaw) → ((flaw : Flaw) → P flaw ↔ Q flaw) → Tell P xs → Tell Q xs
 same_tell P Q xs same p = (All-weaker P Q (λ flaw h. (same flaw).0 h) xs p.0, λ e flaw h. p.1 e flaw ((same flaw).1 h))
 
--- ---- members
+-- ---- members and items
+
+member_there : (all before rest : Members) (name : List ℕ) (d : Data) → Parts all before rest → HasMember name d rest → HasMember name d all
+member_there all before rest name d (Parts.at_the_first) has = has
+member_there all before rest name d (Parts.behind b k e r parts) has = member_there all b (member k e r) name d parts (inr has)
+
+-- such a flaw of one of the members from here on, by what stands before it
+abbrev pub OfMembers : (Members → List ℕ → Data → Flaw → Type 0) → Members → Members → Flaw → Type 0
+OfMembers P before no_members flaw = ⊥
+OfMembers P before (member name d rest) flaw = Seen (within (key name)) (P before name d) flaw ⊎ OfMembers P (member name d before) rest flaw
+
+module _ (P : Members → List ℕ → Data → Flaw → Type 0) where
+  from_the_first : (all before rest : Members) (flaw : Flaw) → Parts all before rest → OfMembers P before rest flaw → OfMembers P no_members all flaw
+  from_the_first all before rest flaw Parts.at_the_first wrong = wrong
+  from_the_first all before rest flaw (Parts.behind b name d r parts) wrong = from_the_first all b (member name d rest) flaw parts (inr wrong)
+
+  -- of a member, whatever stands before it
+  pub among : (before rest : Members) (name : List ℕ) (d : Data) (flaw : Flaw) → HasMember name d rest → ((b : Members) → P b name d flaw) → OfMembers P before rest (within (key name) flaw)
+  among before no_members name d flaw has wrong = absurd has
+  among before (member l e rest) name d flaw (inl (same, is)) wrong = inl (flaw, ap (λ n. within (key n) flaw) same, subst (λ n. P before n e flaw) same (subst (λ x. P before name x flaw) is (wrong before)))
+  among before (member l e rest) name d flaw (inr has) wrong = inr (among (member l e before) rest name d flaw has wrong)
+
+  pub one_member : (all before rest : Members) (flaw : Flaw) → Parts all before rest → OfMembers P before rest flaw → (b : Members) × (name : List ℕ) × (d : Data) × (f : Flaw) × HasBehind b name d all × HasMember name d all × (flaw ≡ within (key name) f) × P b name d f
+  one_member all before no_members flaw parts wrong = absurd wrong
+  one_member all before (member name d rest) flaw parts (inl (f, same, wrong)) = (before, name, d, f, (rest, parts), member_there all before (member name d rest) name d parts (inl (refl, refl)), same, wrong)
+  one_member all before (member name d rest) flaw parts (inr later) = one_member all (member name d before) rest flaw (Parts.behind before name d rest parts) later
+
+-- such a flaw of one of the items from place i on
+abbrev pub OfItems : (ℕ → Data → Flaw → Type 0) → ℕ → Items → Flaw → Type 0
+OfItems P i no_items flaw = ⊥
+OfItems P i (item d rest) flaw = Seen (within (index i)) (P i d) flaw ⊎ OfItems P (suc i) rest flaw
+
+module _ (P : ℕ → Data → Flaw → Type 0) where
+  pub item_among : (rest : Items) (i j n : ℕ) (d : Data) (flaw : Flaw) → n ≡ j + i → get_item j rest ≡ Some d → P n d flaw → OfItems P i rest (within (index n) flaw)
+  item_among no_items i j n d flaw same is wrong = absurd cc
+  item_among (item e rest) i zero n d flaw same is wrong =
+      let here_is : n ≡ i = omega (arith, same) in
+      let value : d ≡ e = cc in
+      inl (flaw, ap (λ m. within (index m) flaw) here_is, subst (λ m. P m e flaw) here_is (subst (λ x. P n x flaw) value wrong))
+  item_among (item e rest) i (suc j) n d flaw same is wrong = inr (item_among rest (suc i) j n d flaw (omega (arith, same)) is wrong)
+
+  pub one_item : (all : Items) (i : ℕ) (rest : Items) (flaw : Flaw) → IsFrom all i rest → OfItems P i rest flaw → (n : ℕ) × (d : Data) × (f : Flaw) × (get_item n all ≡ Some d) × (flaw ≡ within (index n) f) × P n d f
+  one_item all i no_items flaw from wrong = absurd wrong
+  one_item all i (item d rest) flaw from (inl (f, same, wrong)) = (i, d, f, item_here all i d rest from, same, wrong)
+  one_item all i (item d rest) flaw from (inr later) = one_item all (suc i) rest flaw (from_next all i d rest from) later
+
+-- ---- a flaw is one of the value, or of what it holds
 
 -- a map has no rows
 no_rows : (place : Place) (name : List ℕ) (entries : Entries) → entries_of place ≡ Some entries → presence_under place name ≡ None
@@ -267,54 +313,19 @@ unfolding entries_of presence_under rows_of
 no_rows places.Environment name entries is = refl
 no_rows _ name entries is = cc
 
-module _ (around : Around) (place : Place) (all : Members) where
-  -- a flaw of a member, seen from its value: it is unknown, its value is wrong, or its name
-  abbrev IsFlawAt : Members → List ℕ → Data → Flaw → Type 0
-  IsFlawAt before name d flaw =
-      ((flaw ≡ here Unknown) × ((content : Content) → ¬ IsPropertyOf place name content))
-      ⊎ (((content : Content) × IsPropertyOf place name content × ¬ IsLeftOut place name d × IsFlawOf (member_of place all before ∷ around) content d flaw) ⊎ IsNoNameAt around place name d flaw)
+-- a flaw of a member, seen from its value: it is unknown, its value is wrong, or its name
+abbrev IsFlawAt : Around → Place → Members → Members → List ℕ → Data → Flaw → Type 0
+IsFlawAt around place all before name d flaw =
+    ((flaw ≡ here Unknown) × ((content : Content) → ¬ IsPropertyOf place name content))
+    ⊎ (((content : Content) × IsPropertyOf place name content × ¬ IsLeftOut place name d × IsFlawOf (member_of place all before ∷ around) content d flaw) ⊎ IsNoNameAt around place name d flaw)
 
-  -- a flaw of one of the members from here on
-  abbrev IsFlawFrom : Members → Members → Flaw → Type 0
-  IsFlawFrom before no_members flaw = ⊥
-  IsFlawFrom before (member name d rest) flaw = Seen (within (key name)) (IsFlawAt before name d) flaw ⊎ IsFlawFrom (member name d before) rest flaw
-
-  from_the_first : (before rest : Members) (flaw : Flaw) → Parts all before rest → IsFlawFrom before rest flaw → IsFlawFrom no_members all flaw
-  from_the_first before rest flaw Parts.at_the_first wrong = wrong
-  from_the_first before rest flaw (Parts.behind b name d r parts) wrong = from_the_first b (member name d rest) flaw parts (inr wrong)
-
-  -- of a member, whatever stands before it
-  among : (before rest : Members) (name : List ℕ) (d : Data) (flaw : Flaw) → HasMember name d rest → ((b : Members) → IsFlawAt b name d flaw) → IsFlawFrom before rest (within (key name) flaw)
-  among before no_members name d flaw has wrong = absurd has
-  among before (member l e rest) name d flaw (inl (same, is)) wrong = inl (flaw, ap (λ n. within (key n) flaw) same, subst (λ n. IsFlawAt before n e flaw) same (subst (λ x. IsFlawAt before name x flaw) is (wrong before)))
-  among before (member l e rest) name d flaw (inr has) wrong = inr (among (member l e before) rest name d flaw has wrong)
-
-pub member_there : (all before rest : Members) (name : List ℕ) (d : Data) → Parts all before rest → HasMember name d rest → HasMember name d all
-member_there all before rest name d (Parts.at_the_first) has = has
-member_there all before rest name d (Parts.behind b k e r parts) has = member_there all b (member k e r) name d parts (inr has)
-
--- ---- items
-
-module _ (around : Around) (place : Place) (all : Items) where
-  -- a flaw of one of the items from place i on
-  abbrev IsItemFlaw : ℕ → Items → Flaw → Type 0
-  IsItemFlaw i no_items flaw = ⊥
-  IsItemFlaw i (item d rest) flaw = Seen (within (index i)) (IsFlawOf (item_of place all i ∷ around) (item_content place) d) flaw ⊎ IsItemFlaw (suc i) rest flaw
-
-  item_among : (rest : Items) (i j n : ℕ) (d : Data) (flaw : Flaw) → n ≡ j + i → get_item j rest ≡ Some d → IsFlawOf (item_of place all n ∷ around) (item_content place) d flaw → IsItemFlaw i rest (within (index n) flaw)
-  item_among no_items i j n d flaw same is wrong = absurd cc
-  item_among (item e rest) i zero n d flaw same is wrong =
-      let here_is : n ≡ i = omega (arith, same) in
-      let value : d ≡ e = cc in
-      inl (flaw, ap (λ m. within (index m) flaw) here_is, subst (λ m. IsFlawOf (item_of place all m ∷ around) (item_content place) e flaw) here_is (subst (λ x. IsFlawOf (item_of place all n ∷ around) (item_content place) x flaw) value wrong))
-  item_among (item e rest) i (suc j) n d flaw same is wrong = inr (item_among rest (suc i) j n d flaw (omega (arith, same)) is wrong)
-
--- ---- a flaw is one of the value, or of what it holds
+abbrev IsItemFlaw : Around → Place → Items → ℕ → Data → Flaw → Type 0
+IsItemFlaw around place all i d flaw = IsFlawOf (item_of place all i ∷ around) (item_content place) d flaw
 
 abbrev IsFlawInside : Around → Data → Content → Flaw → Type 0
 IsFlawInside around (object ms) (At place) flaw =
-    IsNoClassAt place ms flaw ⊎ (IsMissing ms (place_of_properties place ms) flaw ⊎ (IsFlawFrom around (place_of_properties place ms) ms no_members ms flaw ⊎ IsNoShapeAt place ms flaw))
-IsFlawInside around (array ds) (At place) flaw = IsItemFlaw around place ds 0 ds flaw
+    IsNoClassAt place ms flaw ⊎ (IsMissing ms (place_of_properties place ms) flaw ⊎ (OfMembers (IsFlawAt around (place_of_properties place ms) ms) no_members ms flaw ⊎ IsNoShapeAt place ms flaw))
+IsFlawInside around (array ds) (At place) flaw = OfItems (IsItemFlaw around place ds) 0 ds flaw
 IsFlawInside around _ _ flaw = ⊥
 
 of_value : (around : Around) (content : Content) (d : Data) (flaw : Flaw) → IsFlawOf around content d flaw → IsNoValueOf around content d flaw ⊎ IsFlawInside around d content flaw
@@ -322,37 +333,30 @@ of_value around content d flaw (IsFlawOf.wrong_value wrong) = inl wrong
 of_value around content d flaw (IsFlawOf.wrong_class wrong) = inr (inl wrong)
 of_value around content d flaw (IsFlawOf.wrong_rows (HasNotItsRows.missing row has needed none)) = inr (inr (inl (inl (row, has, needed, none, refl))))
 of_value around content d flaw (IsFlawOf.wrong_rows (HasNotItsRows.no_byte_order is a b)) = inr (inr (inl (inr (is, a, b, refl))))
-of_value around content d flaw (IsFlawOf.wrong_rows {place = place} {ms = ms} (HasNotItsRows.unknown name v has none)) = inr (inr (inr (inl (among around (place_of_properties place ms) ms no_members ms name v (here Unknown) has (λ b. inl (refl, none))))))
+of_value around content d flaw (IsFlawOf.wrong_rows {place = place} {ms = ms} (HasNotItsRows.unknown name v has none)) = inr (inr (inr (inl (among (IsFlawAt around (place_of_properties place ms) ms) no_members ms name v (here Unknown) has (λ b. inl (refl, none))))))
 of_value around content d flaw (IsFlawOf.wrong_shape wrong) = inr (inr (inr (inr wrong)))
-of_value around content d flaw (IsFlawOf.wrong_name {place = place} {ms = ms} name v f has wrong) = inr (inr (inr (inl (among around (place_of_properties place ms) ms no_members ms name v f has (λ b. inr (inr wrong))))))
+of_value around content d flaw (IsFlawOf.wrong_name {place = place} {ms = ms} name v f has wrong) = inr (inr (inr (inl (among (IsFlawAt around (place_of_properties place ms) ms) no_members ms name v f has (λ b. inr (inr wrong))))))
 of_value around content d flaw (IsFlawOf.in_property {place = place} {ms = ms} before name v inner f (rest, parts) is left wrong) =
-    inr (inr (inr (inl (from_the_first around (place_of_properties place ms) ms before (member name v rest) (within (key name) f) parts (inl (f, refl, inr (inl (inner, is, left, wrong))))))))
-of_value around content d flaw (IsFlawOf.in_item {place = place} {ds = ds} i v f is wrong) = inr (item_among around place ds ds 0 i i v f (omega arith) is wrong)
+    inr (inr (inr (inl (from_the_first (IsFlawAt around (place_of_properties place ms) ms) ms before (member name v rest) (within (key name) f) parts (inl (f, refl, inr (inl (inner, is, left, wrong))))))))
+of_value around content d flaw (IsFlawOf.in_item {place = place} {ds = ds} i v f is wrong) = inr (item_among (IsItemFlaw around place ds) ds 0 i i v f (omega arith) is wrong)
 
-from_members : (around : Around) (place : Place) (all before rest : Members) (flaw : Flaw) → Parts all before rest → IsFlawFrom around (place_of_properties place all) all before rest flaw → IsFlawOf around (At place) (object all) flaw
-from_members around place all before no_members flaw parts wrong = absurd wrong
-from_members around place all before (member name d rest) flaw parts (inr later) = from_members around place all (member name d before) rest flaw (Parts.behind before name d rest parts) later
-from_members around place all before (member name d rest) flaw parts (inl (f, same, wrong)) = subst (IsFlawOf around (At place) (object all)) (sym same) (elim wrong [
-  | inl (is, none) ↦ IsFlawOf.wrong_rows (subst (λ x. HasNotItsRows (place_of_properties place all) all (within (key name) x)) (sym is) (HasNotItsRows.unknown name d has none))
-  | inr (inl (content, is, left, inner)) ↦ IsFlawOf.in_property before name d content f (rest, parts) is left inner
-  | inr (inr named) ↦ IsFlawOf.wrong_name name d f has named
-])
-  where
-    has : HasMember name d all
-    has = member_there all before (member name d rest) name d parts (inl (refl, refl))
-
-from_items : (around : Around) (place : Place) (all : Items) (i : ℕ) (rest : Items) (flaw : Flaw) → IsFrom all i rest → IsItemFlaw around place all i rest flaw → IsFlawOf around (At place) (array all) flaw
-from_items around place all i no_items flaw from wrong = absurd wrong
-from_items around place all i (item d rest) flaw from (inl (f, same, wrong)) = subst (IsFlawOf around (At place) (array all)) (sym same) (IsFlawOf.in_item i d f (item_here all i d rest from) wrong)
-from_items around place all i (item d rest) flaw from (inr later) = from_items around place all (suc i) rest flaw (from_next all i d rest from) later
+from_member : (around : Around) (place : Place) (all : Members) (flaw : Flaw) → OfMembers (IsFlawAt around (place_of_properties place all) all) no_members all flaw → IsFlawOf around (At place) (object all) flaw
+from_member around place all flaw wrong =
+    let (before, name, d, f, behind_these, has, same, at) = one_member (IsFlawAt around (place_of_properties place all) all) all no_members all flaw Parts.at_the_first wrong in
+    subst (IsFlawOf around (At place) (object all)) (sym same) (elim at [
+      | inl (is, none) ↦ IsFlawOf.wrong_rows (subst (λ x. HasNotItsRows (place_of_properties place all) all (within (key name) x)) (sym is) (HasNotItsRows.unknown name d has none))
+      | inr (inl (content, is, left, inner)) ↦ IsFlawOf.in_property before name d content f behind_these is left inner
+      | inr (inr named) ↦ IsFlawOf.wrong_name name d f has named
+    ])
 
 from_inside : (around : Around) (d : Data) (content : Content) (flaw : Flaw) → IsFlawInside around d content flaw → IsFlawOf around content d flaw
 from_inside around (object ms) (At place) flaw (inl wrong) = IsFlawOf.wrong_class wrong
 from_inside around (object ms) (At place) flaw (inr (inl (inl (row, has, needed, none, same)))) = subst (IsFlawOf around (At place) (object ms)) (sym same) (IsFlawOf.wrong_rows (HasNotItsRows.missing row has needed none))
 from_inside around (object ms) (At place) flaw (inr (inl (inr (is, a, b, same)))) = subst (IsFlawOf around (At place) (object ms)) (sym same) (IsFlawOf.wrong_rows (HasNotItsRows.no_byte_order is a b))
-from_inside around (object ms) (At place) flaw (inr (inr (inl wrong))) = from_members around place ms no_members ms flaw Parts.at_the_first wrong
+from_inside around (object ms) (At place) flaw (inr (inr (inl wrong))) = from_member around place ms flaw wrong
 from_inside around (object ms) (At place) flaw (inr (inr (inr wrong))) = IsFlawOf.wrong_shape wrong
-from_inside around (array ds) (At place) flaw wrong = from_items around place ds 0 ds flaw (from_start ds) wrong
+from_inside around (array ds) (At place) flaw wrong =
+    let (n, d, f, is, same, inner) = one_item (IsItemFlaw around place ds) ds 0 ds flaw (from_start ds) wrong in subst (IsFlawOf around (At place) (array ds)) (sym same) (IsFlawOf.in_item n d f is inner)
 from_inside around _ _ flaw wrong = absurd wrong
 
 value_or_inside : (around : Around) (content : Content) (d : Data) (flaw : Flaw) → (IsNoValueOf around content d flaw ⊎ IsFlawInside around d content flaw) ↔ IsFlawOf around content d flaw
@@ -414,22 +418,22 @@ mutual
       let p = place_of_properties place ms in
       both_tell (IsNoClassAt place ms) _ (told_by (class_rule place ms)) _ (judged_tell (IsNoClassAt place ms) (class_rule place ms) (class_judged place ms))
       (both_tell (IsMissing ms p) _ (told_by (all_there p ms)) _ (judged_tell (IsMissing ms p) (all_there p ms) (missing_judged ms p))
-      (both_tell (IsFlawFrom around p ms no_members ms) (IsNoShapeAt place ms) (member_flaws (inside p ms k) p ms) (told_by (shape_of place ms)) (members_tell ms (inside p ms k) around p ms no_members (inside_agrees k around h p ms)) (judged_tell (IsNoShapeAt place ms) (shape_of place ms) (shape_judged place ms))))
+      (both_tell (OfMembers (IsFlawAt around p ms) no_members ms) (IsNoShapeAt place ms) (member_flaws (inside p ms k) p ms) (told_by (shape_of place ms)) (members_tell ms (inside p ms k) around p ms no_members (inside_agrees k around h p ms)) (judged_tell (IsNoShapeAt place ms) (shape_of place ms) (shape_judged place ms))))
   inner_tells _ k around h _ = (All-nil _, λ e flaw wrong. wrong)
 
-  items_tell : (rest : Items) (k : Known) (around : Around) → Agrees k around → (place : Place) (all : Items) (i : ℕ) (taken : Members) → Takes taken place all i → IsFrom all i rest → Tell (IsItemFlaw around place all i rest) (item_flaws k place taken i rest)
+  items_tell : (rest : Items) (k : Known) (around : Around) → Agrees k around → (place : Place) (all : Items) (i : ℕ) (taken : Members) → Takes taken place all i → IsFrom all i rest → Tell (OfItems (IsItemFlaw around place all) i rest) (item_flaws k place taken i rest)
   items_tell no_items k around h place all i taken takes from = (All-nil _, λ e flaw wrong. wrong)
   items_tell (item d rest) k around h place all i taken takes from =
       let j = with_taken taken k in
       let inner = item_of place all i ∷ around in
       let agrees = item_agrees k around taken place all i h takes in
-      seen_tell (IsFlawOf inner (item_content place) d) (IsItemFlaw around place all (suc i) rest) (within (index i)) _ _ (value_tells j inner agrees (item_content place) d (inner_tells d j inner agrees (item_content place)))
+      seen_tell (IsFlawOf inner (item_content place) d) (OfItems (IsItemFlaw around place all) (suc i) rest) (within (index i)) _ _ (value_tells j inner agrees (item_content place) d (inner_tells d j inner agrees (item_content place)))
       (items_tell rest k around h place all (suc i) (with_names d taken) (takes_further taken place all i d (item_here all i d rest from) takes) (from_next all i d rest from))
 
-  members_tell : (rest : Members) (k : Known) (around : Around) (place : Place) (all before : Members) → Agrees k (member_of place all before ∷ around) → Tell (IsFlawFrom around place all before rest) (member_flaws k place rest)
+  members_tell : (rest : Members) (k : Known) (around : Around) (place : Place) (all before : Members) → Agrees k (member_of place all before ∷ around) → Tell (OfMembers (IsFlawAt around place all) before rest) (member_flaws k place rest)
   members_tell no_members k around place all before h = (All-nil _, λ e flaw wrong. wrong)
   members_tell (member name d rest) k around place all before h =
-      seen_tell (IsFlawAt around place all before name d) (IsFlawFrom around place all (member name d before) rest) (within (key name)) _ _
+      seen_tell (IsFlawAt around place all before name d) (OfMembers (IsFlawAt around place all) (member name d before) rest) (within (key name)) _ _
       (property_tells k around place all before name d h (λ content. inner_tells d k (member_of place all before ∷ around) h content))
       (members_tell rest (behind place d k) around place all (member name d before) (behind_agrees around all before name d place k h))
 

@@ -1,10 +1,10 @@
 -- Each limit that the walk over a configuration tells of is one that it passes by the table.
-use Rattle.std.proofs.Common.{◌≡◌, ◌⊎◌, ◌↔◌, ◌*◌, ◌/◌, ◌≤◌, ◌<◌, ℕ, zero, suc, Bool, true, false, not, cond, List, [], ◌∷◌, length, Option, Some, None, inl, inr, refl, sym, ap, subst, ◌∙◌, arith, ◌++◌, ◌%◌, ◌==◌, ◌&&◌, map, Contains, is_some, Err, codes, unwrap_or, nat_le, nat_eq}
-use Rattle.conf_laws.proofs.Agreement.{IsFrom, from_start, from_next, item_here}
-use Rattle.conf_laws.proofs.Readings.{some_same, of_element, in_array, by_found, by_test}
-use Rattle.conf_laws.proofs.TableFlawLaws.{static_told, member_there, refused_among}
+use Rattle.std.proofs.Common.{◌≡◌, ◌⊎◌, ◌↔◌, ◌*◌, ◌/◌, ◌≤◌, ◌<◌, ℕ, zero, suc, Bool, true, false, not, cond, List, [], ◌∷◌, length, Option, Some, None, inl, inr, refl, sym, ap, subst, ◌∙◌, arith, ◌%◌, ◌==◌, ◌&&◌, map, Contains, is_some, Err, codes, unwrap_or, nat_le, nat_eq}
+use Rattle.conf_laws.proofs.Agreement.{from_start}
+use Rattle.conf_laws.proofs.Readings.{some_none, some_same, of_element, in_array, by_found, by_test}
+use Rattle.conf_laws.proofs.TableFlawLaws.{static_told, Tell, both_tell, seen_tell, same_tell, OfMembers, among, one_member, OfItems, item_among, one_item, refused_among}
 use Rattle.conf_laws.proofs.ValueFlawLaws.{none_there, divided}
-use Rattle.conf_laws.proofs.Words.{Parts, IsArray, HasElement, Nest, product, HasTooManyElements, PassesAt, IsLongText, IsNoPowerUpTo, PassesBy, PassesLimitOf, entries_of, content_under, Place, Content, Entries, Keys, class_of, told_by, times, at_least_one, elements, elements_in_array, within_limit, bytes_fit, divides, power_fits, is_outermost, arrays_fit, count_of, at_most, ranges_of, ranges_fit, place_fits, fits, is_label, key_fits, inner_limits, item_limits, member_limits, configuration_limits, natural_in, place_of_properties, item_content, is_static_array, Flaw, key, index, here, within, HasMember, refusal, Limit, as_natural, Data, object, Members, string, array, Items, no_items, item, no_members, member, get_member, nat_tests, mul-one, one-le-mul, mul-mod_right, leb-true, leb-false, lt-leb, ne_eqb, or_from, and_left, and_right, true≢false, eqb-false, and_cases, or_parts, All-nil, All-cons, All-map, All-append, All-weaker, All-contains, mul-le, option_map_or, All}
+use Rattle.conf_laws.proofs.Words.{Parts, IsArray, HasElement, Nest, product, HasTooManyElements, PassesAt, IsLongText, IsNoPowerUpTo, PassesBy, PassesLimitOf, entries_of, content_under, Place, Content, Entries, Keys, class_of, told_by, times, at_least_one, elements, elements_in_array, within_limit, bytes_fit, divides, power_fits, is_outermost, arrays_fit, count_of, at_most, ranges_of, ranges_fit, place_fits, fits, is_label, key_fits, inner_limits, item_limits, member_limits, configuration_limits, content_limits, natural_in, place_of_properties, item_content, is_static_array, Flaw, key, index, here, within, refusal, Limit, as_natural, Data, object, Members, string, array, Items, no_items, item, no_members, member, get_member, nat_tests, mul-one, one-le-mul, mul-mod_right, leb-true, leb-false, lt-leb, ne_eqb, or_from, and_left, and_right, true≢false, eqb-false, and_cases, or_parts, All-nil, All-cons, All-contains, mul-le, option_map_or}
 use Rattle.conf_laws.proofs.Words.places
 use Rattle.conf_laws.proofs.Words.contents
 use Rattle.conf_laws.proofs.Words.keys
@@ -189,66 +189,94 @@ label_fails place name = (
       rw labels (lt-leb (length name) 4096 long),
 )
 
--- ---- lists of limits
+-- ---- a limit is one of the value, or of what it holds
 
-limit_and : (P : Flaw → Type 0) (b : Bool) (rest : List Flaw) → (b ≡ false → P (here Limit)) → All P rest → All P (told_by (within_limit b) ++ rest)
-limit_and P true rest told held = held
-limit_and P false rest told held = All-cons P (here Limit) rest (told refl) held
+abbrev IsPassedAt : Place → Members → List ℕ → Data → Flaw → Type 0
+IsPassedAt place before name d flaw = ((flaw ≡ here Limit) × IsLongLabel place name) ⊎ ((content : Content) × (content_under place name ≡ Some content) × PassesLimitOf content d flaw)
 
-value_and_held : (content : Content) (d : Data) → All (PassesLimitOf content d) (inner_limits content d) → All (PassesLimitOf content d) (told_by (within_limit (fits content d)) ++ inner_limits content d)
-value_and_held content d held = limit_and (PassesLimitOf content d) (fits content d) (inner_limits content d) (λ e. PassesLimitOf.too_large ((by_fails content d).0 e)) held
+abbrev IsItemPassed : Place → ℕ → Data → Flaw → Type 0
+IsItemPassed place i d flaw = PassesLimitOf (item_content place) d flaw
 
--- those of a part, seen from the whole, before others
-seen_and : (P Q : Flaw → Type 0) (seen : Flaw → Flaw) (flaws rest : List Flaw) → ((flaw : Flaw) → P flaw → Q (seen flaw)) → All P flaws → All Q rest → All Q (map seen flaws ++ rest)
-seen_and P Q seen flaws rest holds held others = All-append Q (map seen flaws) rest (All-map Q seen flaws (All-weaker P (λ flaw. Q (seen flaw)) holds flaws held)) others
+abbrev IsPassedInside : Data → Content → Flaw → Type 0
+IsPassedInside (object ms) (contents.At place) flaw = OfMembers (IsPassedAt (place_of_properties place ms)) no_members ms flaw
+IsPassedInside (array ds) (contents.At place) flaw = OfItems (IsItemPassed place) 0 ds flaw
+IsPassedInside _ _ flaw = ⊥
 
--- the limits of a member, where those of its value are told
-module _ (place : Place) (all before rest : Members) (name : List ℕ) (d : Data) (parts : Parts all before (member name d rest)) where
-  abbrev IsPassedThere : Flaw → Type 0
-  IsPassedThere flaw = PassesLimitOf (contents.At place) (object all) (within (key name) flaw)
+of_value : (content : Content) (d : Data) (flaw : Flaw) → PassesLimitOf content d flaw → ((flaw ≡ here Limit) × PassesBy content d) ⊎ IsPassedInside d content flaw
+of_value content d flaw (PassesLimitOf.too_large passed) = inl (refl, passed)
+of_value content d flaw (PassesLimitOf.long_label {place = place} {ms = ms} label v entries has is labels long) = inr (among (IsPassedAt (place_of_properties place ms)) no_members ms label v (here Limit) has (λ b. inl (refl, (entries, is, labels, long))))
+of_value content d flaw (PassesLimitOf.in_property {place = place} {ms = ms} name v inner f has is passed) = inr (among (IsPassedAt (place_of_properties place ms)) no_members ms name v f has (λ b. inr (inner, is, passed)))
+of_value content d flaw (PassesLimitOf.in_item {place = place} {ds = ds} i v f is passed) = inr (item_among (IsItemPassed place) ds 0 i i v f (omega arith) is passed)
 
-  there : HasMember name d all
-  there = member_there all before (member name d rest) name d parts (inl (refl, refl))
+from_inside : (d : Data) (content : Content) (flaw : Flaw) → IsPassedInside d content flaw → PassesLimitOf content d flaw
+from_inside (object ms) (contents.At place) flaw passed =
+    let (before, name, d, f, behind, has, same, at) = one_member (IsPassedAt (place_of_properties place ms)) ms no_members ms flaw Parts.at_the_first passed in
+    subst (PassesLimitOf (contents.At place) (object ms)) (sym same) (elim at [
+      | inl (is, (entries, map, labels, long)) ↦ subst (λ x. PassesLimitOf (contents.At place) (object ms) (within (key name) x)) (sym is) (PassesLimitOf.long_label name d entries has map labels long)
+      | inr (content, is, inner) ↦ PassesLimitOf.in_property name d content f has is inner
+    ])
+from_inside (array ds) (contents.At place) flaw passed =
+    let (n, d, f, is, same, inner) = one_item (IsItemPassed place) ds 0 ds flaw (from_start ds) passed in subst (PassesLimitOf (contents.At place) (array ds)) (sym same) (PassesLimitOf.in_item n d f is inner)
+from_inside _ _ flaw passed = absurd passed
 
-  of_member : ((content : Content) → All (PassesLimitOf content d) (inner_limits content d)) → (o : Option Content) → content_under (place_of_properties place all) name ≡ o
-      → All IsPassedThere (told_by (within_limit (fits (unwrap_or o contents.Anything) d)) ++ inner_limits (unwrap_or o contents.Anything) d)
-  unfolding fits
-  of_member held None is = nothing_in d
-    where
-      nothing_in : (d : Data) → All IsPassedThere (told_by (within_limit (fits contents.Anything d)) ++ inner_limits contents.Anything d)
-      nothing_in (object ms) = All-nil IsPassedThere
-      nothing_in _ = All-nil IsPassedThere
-  of_member held (Some content) is =
-      All-weaker (PassesLimitOf content d) IsPassedThere (λ flaw passed. PassesLimitOf.in_property name d content flaw there is passed) _ (value_and_held content d (held content))
+value_or_inside : (content : Content) (d : Data) (flaw : Flaw) → (((flaw ≡ here Limit) × PassesBy content d) ⊎ IsPassedInside d content flaw) ↔ PassesLimitOf content d flaw
+value_or_inside content d flaw = (λ either. elim either [ inl (is, passed) ↦ subst (PassesLimitOf content d) (sym is) (PassesLimitOf.too_large passed) | inr inside ↦ from_inside d content flaw inside ], of_value content d flaw)
 
-  member_told : ((content : Content) → All (PassesLimitOf content d) (inner_limits content d))
-      → All IsPassedThere (told_by (within_limit (key_fits (place_of_properties place all) name)) ++ (told_by (within_limit (fits (unwrap_or (content_under (place_of_properties place all) name) contents.Anything) d)) ++ inner_limits (unwrap_or (content_under (place_of_properties place all) name) contents.Anything) d))
-  member_told held =
-      limit_and IsPassedThere (key_fits (place_of_properties place all) name) _ (λ e. let label = (label_fails (place_of_properties place all) name).0 e in PassesLimitOf.long_label name d label.0 there label.1 label.2 label.3)
-      (of_member held (content_under (place_of_properties place all) name) refl)
+-- ---- the walk
+
+-- what fails a test is a limit that is passed
+limit_tells : (Q : Type 0) (b : Bool) → (b ≡ false) ↔ Q → Tell (λ flaw. (flaw ≡ here Limit) × Q) (told_by (within_limit b))
+limit_tells Q true same = (All-nil (λ flaw. (flaw ≡ here Limit) × Q), λ e flaw passed. absurd (true≢false (same.1 passed.1)))
+limit_tells Q false same = (All-cons (λ flaw. (flaw ≡ here Limit) × Q) (here Limit) [] (refl, same.0 refl) (All-nil (λ flaw. (flaw ≡ here Limit) × Q)), λ e. absurd cc)
+
+value_tells : (content : Content) (d : Data) → Tell (IsPassedInside d content) (inner_limits content d) → Tell (PassesLimitOf content d) (content_limits content d)
+value_tells content d held =
+    same_tell (λ flaw. ((flaw ≡ here Limit) × PassesBy content d) ⊎ IsPassedInside d content flaw) (PassesLimitOf content d) (content_limits content d) (value_or_inside content d)
+    (both_tell (λ flaw. (flaw ≡ here Limit) × PassesBy content d) (IsPassedInside d content) (told_by (within_limit (fits content d))) (inner_limits content d) (limit_tells (PassesBy content d) (fits content d) (by_fails content d)) held)
+
+abbrev IsPassedUnder : Place → List ℕ → Data → Flaw → Type 0
+IsPassedUnder place name d flaw = (content : Content) × (content_under place name ≡ Some content) × PassesLimitOf content d flaw
+
+-- nothing is asked of what is unknown
+unknown_fits : (d : Data) → content_limits contents.Anything d ≡ []
+unfolding fits
+unknown_fits (object ms) = refl
+unknown_fits _ = refl
+
+member_tells : (place : Place) (name : List ℕ) (d : Data) → ((content : Content) → Tell (IsPassedInside d content) (inner_limits content d)) → Tell (IsPassedUnder place name d) (content_limits (unwrap_or (content_under place name) contents.Anything) d)
+member_tells place name d held =
+    by_found (λ (o : Option Content). Tell (IsPassedUnder place name d) (content_limits (unwrap_or o contents.Anything) d)) (content_under place name)
+    (λ none. subst (Tell (IsPassedUnder place name d)) (sym (unknown_fits d)) (All-nil (IsPassedUnder place name d), λ e flaw passed. some_none (content_under place name) passed.0 passed.1 none))
+    (λ content is. same_tell (PassesLimitOf content d) (IsPassedUnder place name d) (content_limits content d)
+    (λ flaw. (λ passed. (content, is, passed), λ (c, there, passed). subst (λ x. PassesLimitOf x d flaw) (some_same (content_under place name) c content there is) passed)) (value_tells content d (held content)))
 
 mutual
-  inner_told : (d : Data) (content : Content) → All (PassesLimitOf content d) (inner_limits content d)
-  inner_told (array ds) (contents.At place) = items_told ds place ds 0 (from_start ds)
-  inner_told (object ms) (contents.At place) = members_told ms place ms no_members Parts.at_the_first
-  inner_told _ _ = All-nil _
+  inner_tells : (d : Data) (content : Content) → Tell (IsPassedInside d content) (inner_limits content d)
+  inner_tells (array ds) (contents.At place) = items_tell ds place 0
+  inner_tells (object ms) (contents.At place) = members_tell ms (place_of_properties place ms) no_members
+  inner_tells _ _ = (All-nil _, λ e flaw passed. passed)
 
-  items_told : (rest : Items) (place : Place) (all : Items) (i : ℕ) → IsFrom all i rest → All (PassesLimitOf (contents.At place) (array all)) (item_limits place i rest)
-  items_told no_items place all i from = All-nil _
-  items_told (item d rest) place all i from =
-      seen_and (PassesLimitOf (item_content place) d) (PassesLimitOf (contents.At place) (array all)) (within (index i)) _ _ (λ flaw passed. PassesLimitOf.in_item i d flaw (item_here all i d rest from) passed)
-      (value_and_held (item_content place) d (inner_told d (item_content place))) (items_told rest place all (suc i) (from_next all i d rest from))
+  items_tell : (rest : Items) (place : Place) (i : ℕ) → Tell (OfItems (IsItemPassed place) i rest) (item_limits place i rest)
+  items_tell no_items place i = (All-nil _, λ e flaw passed. passed)
+  items_tell (item d rest) place i = seen_tell (PassesLimitOf (item_content place) d) (OfItems (IsItemPassed place) (suc i) rest) (within (index i)) _ _ (value_tells (item_content place) d (inner_tells d (item_content place))) (items_tell rest place (suc i))
 
-  members_told : (rest : Members) (place : Place) (all before : Members) → Parts all before rest → All (PassesLimitOf (contents.At place) (object all)) (member_limits (place_of_properties place all) rest)
-  members_told no_members place all before parts = All-nil _
-  members_told (member name d rest) place all before parts =
-      All-append (PassesLimitOf (contents.At place) (object all)) (map (within (key name)) _) _
-      (All-map (PassesLimitOf (contents.At place) (object all)) (within (key name)) _ (member_told place all before rest name d parts (λ content. inner_told d content)))
-      (members_told rest place all (member name d before) (Parts.behind before name d rest parts))
+  members_tell : (rest : Members) (place : Place) (before : Members) → Tell (OfMembers (IsPassedAt place) before rest) (member_limits place rest)
+  members_tell no_members place before = (All-nil _, λ e flaw passed. passed)
+  members_tell (member name d rest) place before =
+      seen_tell (IsPassedAt place before name d) (OfMembers (IsPassedAt place) (member name d before) rest) (within (key name)) _ _
+      (both_tell (λ flaw. (flaw ≡ here Limit) × IsLongLabel place name) (IsPassedUnder place name d) (told_by (within_limit (key_fits place name))) _ (limit_tells (IsLongLabel place name) (key_fits place name) (label_fails place name)) (member_tells place name d (inner_tells d)))
+      (members_tell rest place (member name d before))
+
+walk_tells : (d : Data) → Tell (PassesLimitOf (contents.At places.Root) d) (configuration_limits d)
+walk_tells d = value_tells (contents.At places.Root) d (inner_tells d (contents.At places.Root))
 
 -- each limit of a whole configuration
 pub limit_told : (d : Data) (flaw : Flaw) → Contains (configuration_limits d) flaw → PassesLimitOf (contents.At places.Root) d flaw
-limit_told d flaw among = All-contains (PassesLimitOf (contents.At places.Root) d) (configuration_limits d) flaw (value_and_held (contents.At places.Root) d (inner_told d (contents.At places.Root))) among
+limit_told d flaw told = All-contains (PassesLimitOf (contents.At places.Root) d) (configuration_limits d) flaw (walk_tells d).0 told
+
+-- where no limit is told of a whole configuration
+pub none_passed : (d : Data) (flaw : Flaw) → configuration_limits d ≡ [] → ¬ PassesLimitOf (contents.At places.Root) d flaw
+none_passed d flaw e = (walk_tells d).1 e flaw
 
 -- what the judge of a configuration's limits answers is a limit that it passes
 pub refused_told : (d : Data) (flaw : Flaw) → refusal (configuration_limits d) ≡ Err flaw → PassesLimitOf (contents.At places.Root) d flaw

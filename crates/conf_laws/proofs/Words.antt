@@ -63,7 +63,7 @@ pub use Rattle.ctf_types.specs.{declared.EventFeatures.EventFeatures, declared.E
 pub use Rattle.ctf_types.specs.{declared.FieldType.TheVariants.{Enum, Int, Static, Str}, declared.HeaderFeatures.HeaderFeatures, declared.IntType.IntType}
 pub use Rattle.ctf_types.specs.{declared.Length.TheVariants.{At as AtMember, Auto}, declared.Mapping.Mapping, declared.MemberType.MemberType}
 pub use Rattle.ctf_types.specs.{declared.MemberType.TheVariants.{Dyn, Plain}, declared.StreamType.StreamType, declared.StructType.StructType}
-pub use Rattle.conf_laws.specs.Around.{Around, HasBits, HasDefault, HasNumber, IsBehindDefault, IsBeside, IsDynamic, IsTaken, Parts, SaysDefault, TakesName}
+pub use Rattle.conf_laws.specs.Around.{Around, HasBehind, HasBits, HasDefault, HasNumber, IsBehindDefault, IsBeside, IsDynamic, IsTaken, Parts, SaysDefault, TakesName}
 pub use Rattle.conf_laws.specs.{Around.{enumeration_around, item_of, levels_around, member_of}, Rules.{KeepsRules, KeepsStreamRules}}
 pub use Rattle.conf_laws.specs.TableFlaws.{HasNoBits, HasNotItsRows, IsByte, IsFlawOf, IsIdentifier, IsLeftOut, IsNoClassAt, IsNoShapeAt, IsPropertyOf}
 pub use Rattle.conf_laws.specs.TableLimits.{HasElement, HasTooManyElements, IsArray, IsLongText, IsNoPowerUpTo, Nest, PassesAt, PassesBy, PassesLimitOf, product}

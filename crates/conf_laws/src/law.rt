@@ -56,7 +56,7 @@ pub fn each_limit_is_passed()
 {}
 
 /// Where a walk over the objects tells of no limit, the configuration passes none by the table.
-#[tactic(auto, using(crate::proofs::ExcludedLimits::none_passed))]
+#[tactic(auto, using(crate::proofs::TableLimitLaws::none_passed))]
 pub fn no_limit_is_passed()
     ensures { (d : Data) (flaw : Flaw) → configuration_limits d ≡ [] → ¬ PassesLimitOf (At Root) d flaw }
 {}
