@@ -31,11 +31,8 @@ module _ (d : Data) (t : FieldType) (h : IsAllowed d t) where
 -- no array
 module _ (ms : Members) (class : Place) (is : class_of ms ≡ Some class) (other : is_static_array (Some class) ≡ false) where
   counted_one : (levels n : ℕ) → elements levels (object ms) ≡ Some n → 1 ≡ n
-  counted_one levels n e = go levels (ap is_static_array is ∙ other) e
-    where
-      go : (l : ℕ) → is_static_array (class_of ms) ≡ false → elements l (object ms) ≡ Some n → 1 ≡ n
-      go zero single f = same_Some 1 n (rw single at f)
-      go (suc l) single f = same_Some 1 n (rw single at f)
+  counted_one zero n e = let single : is_static_array (class_of ms) ≡ false = ap is_static_array is ∙ other in same_Some 1 n (rw single at e)
+  counted_one (suc levels) n e = let single : is_static_array (class_of ms) ≡ false = ap is_static_array is ∙ other in same_Some 1 n (rw single at e)
 
   alone : (t : FieldType) → (chain_of t).lengths ≡ [] → IsConfigLeaf (chain_of t).leaf → IsAllowed (object ms) t
   unfolding elements_of

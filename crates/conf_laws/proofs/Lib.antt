@@ -7,7 +7,6 @@ pub mod FieldTypes
 pub mod Structures
 pub mod Traces
 pub mod AllowedMaps
-pub mod AllowedTraces
 pub mod TableFlawLaws
 pub mod Agreement
 pub mod ValueFlawLaws

@@ -203,14 +203,6 @@ entry_shape (object (member name x no_members)) e = (name, x, refl)
 entry_shape (object (member name x (member other y ms))) e = absurd (let one = eqb-true (suc (suc (members_len ms))) 1 (is_passed (nat_eq (suc (suc (members_len ms))) 1) tt tt (here WrongKind) e).0 in omega (arith, one))
 entry_shape _ e = absurd cc
 
--- its name is one that a member can have, it is free, and so is that of its length
-name_judged : (k : Known) (name : List ℕ) (d : Data) → key_of k places.Entry name d ≡ Ok tt → (plain_name_of name ≡ Ok tt) × (is_taken k.taken name ≡ false) × ((is_dynamic d && is_taken k.taken (length_name name)) ≡ false)
-unfolding key_of key_by entries_of free_of
-name_judged k name d e =
-    let judged = both_read (plain_name_of name) _ tt e in
-    let free = or_parts (is_taken k.taken name) (is_dynamic d && is_taken k.taken (length_name name)) (under_no_test _ tt tt _ judged.2) in
-    (judged.1, free.0, free.1)
-
 -- ---- the list
 
 -- the members of a list, with those that are done before its items from place i on
@@ -222,7 +214,7 @@ record AreRead (place : Place) (before : List (List ℕ)) (i : ℕ) (done : List
 
 module _ (k : Known) (place : Place) (before : List (List ℕ)) (entries : item_content place ≡ At places.Entry) where
   items_say : (ds : Items) (taken : Members) (i : ℕ) (done : List (List ℕ × MemberType)) → AreNamed before done taken → item_flaws k place taken i ds ≡ [] → Says (members_behind done ds) (AreRead place before i done ds)
-  unfolding itself_of form_of place_of_properties is_position own_place inside behind_done
+  unfolding itself_of form_of place_of_properties is_position own_place inside behind_done key_of key_by entries_of free_of
   items_say no_items taken i done h f = (done, refl, record { after = taken; named = h; counted = omega arith; types = λ all good. all })
   items_say (item d ds) taken i done h f =
       let first = first_item k place taken i d ds f in
@@ -234,10 +226,11 @@ module _ (k : Known) (place : Place) (before : List (List ℕ)) (entries : item_
       let rows = rows_sound j places.Entry places.Entry ms refl (object_sound j places.Entry ms (subst (λ x. inner_flaws j (At places.Entry) x ≡ []) s.2 sound.inner)) in
       let entry = (first_entry j places.Entry name (At places.Member) s.1 no_members (is_map MapPlace.entry) rows.flaws).0 in
       let m = told_says j s.1 entry.value in
-      let judged = name_judged j name s.1 entry.named in
+      let judged = both_read (plain_name_of name) _ tt entry.named in
+      let own = or_parts (is_taken taken name) (is_dynamic s.1 && is_taken taken (length_name name)) (under_no_test _ tt tt _ judged.2) in
       let b = is_dynamic s.1 in
-      let free = apart_from_taken taken name (names_in done) judged.1 h.names_taken in
-      let named = one_more_named before done taken name b m.0 h (plain_name name judged.0) judged.1 judged.2 (m.2.0 name) in
+      let free = apart_from_taken taken name (names_in done) own.0 h.names_taken in
+      let named = one_more_named before done taken name b m.0 h (plain_name name judged.1) own.0 own.1 (m.2.0 name) in
       let more = done ++ (name, m.0) ∷ [] in
       let rest = items_say ds (with_member name b taken) (suc i) more named (subst (λ x. item_flaws k place (with_names x taken) (suc i) ds ≡ []) s.2 first.1) in
       let step : members_behind done (item (object ms) ds) ≡ members_behind more ds = rw (m.1, free) refl in
@@ -256,20 +249,6 @@ module _ (k : Known) (place : Place) (before : List (List ℕ)) (entries : item_
         },
       )
 
--- a list of entries that tell of members, of which there are 256 at most
-record IsMemberList (place : Place) : Type 0 where
-  form : (k : Known) (d : Data) → itself_of k (At place) d ≡ form_of nothing places.Members d
-  entries : item_content place ≡ At places.Entry
-  most : (n : ℕ) → at_most (entries_of place) n ≡ nat_le n 256
-
-members_list : IsMemberList places.Members
-unfolding itself_of form_of item_content entries_of
-members_list = record { form = λ k d. refl; entries = refl; most = λ n. refl }
-
-extras_list : IsMemberList places.ExtraMembers
-unfolding itself_of form_of item_content entries_of
-extras_list = record { form = λ k d. refl; entries = refl; most = λ n. refl }
-
 is_list : (d : Data) → form_of nothing places.Members d ≡ Ok tt → (ds : Items) × (d ≡ array ds)
 unfolding form_of
 is_list (array ds) e = (ds, refl)
@@ -279,29 +258,24 @@ no_members_allowed : AreConfigMembers []
 unfolding shown_members IsDistinct
 no_members_allowed = record { types = All-nil (λ m. IsConfigMember m.1); names = All-nil IsPlainName; distinct = tt; few = omega arith }
 
--- the members of a list, apart from names that were taken before
-module _ (k : Known) {b : Bool} {around place : Place} {name : List ℕ} (property : Property b around name (At place)) (ms : Members) (m : IsMemberList place) (f : member_flaws k around ms ≡ []) (before : List (List ℕ)) (taken : AreTaken (names_beside place) before) where
+-- the members of a list of 256 entries at most, apart from names that were taken before
+module _ (k : Known) {b : Bool} {around place : Place} {name : List ℕ} (property : Property b around name (At place)) (ms : Members) (form : (d : Data) → itself_of k (At place) d ≡ form_of nothing places.Members d) (entries : item_content place ≡ At places.Entry)
+    (most : (n : ℕ) → at_most (entries_of place) n ≡ nat_le n 256) (f : member_flaws k around ms ≡ []) (before : List (List ℕ)) (taken : AreTaken (names_beside place) before) where
   abbrev IsListed : List (List ℕ × MemberType) → Type 0
   IsListed members = AreApart before (shown_of members) × (AreWithin around ms → AreConfigMembers members)
 
   found_says : (d : Data) → optional name ms ≡ Some d → Says (members_behind [] (unwrap_or (as_array d) no_items)) IsListed
   found_says d is =
       let sound = (optional_sound k around name (At place) ms d (leads property) f is).value in
-      let s = is_list d (sym (m.form k d) ∙ sound.itself) in
-      let all = items_say k place before m.entries s.0 (names_beside place) 0 [] (none_named before (names_beside place) taken) (subst (λ x. inner_flaws k (At place) x ≡ []) s.1 sound.inner) in
+      let s = is_list d (sym (form d) ∙ sound.itself) in
+      let all = items_say k place before entries s.0 (names_beside place) 0 [] (none_named before (names_beside place) taken) (subst (λ x. inner_flaws k (At place) x ≡ []) s.1 sound.inner) in
       let named = all.2.named in
       let counted = all.2.counted in
-      subst (λ x. Says (members_behind [] (unwrap_or (as_array x) no_items)) IsListed) (sym s.1) (
-        all.0,
-        all.1,
-        (
-          named.shown.free,
-          λ h.
-              let good = subst (λ x. IsWithin (At place) x) s.1 (optional_within property ms d h is) in
-              let short = leb-true (items_len s.0) 256 (sym (m.most (items_len s.0)) ∙ (fitting_parts place (array s.0) good.fitting).1) in
-              record { types = all.2.types (All-nil (λ m. IsConfigMember m.1)) (list_within place s.0 good); names = named.names; distinct = named.shown.distinct; few = omega (arith, counted, short) },
-        ),
-      )
+      let allowed : AreWithin around ms → AreConfigMembers all.0 = λ h.
+      let good = subst (λ x. IsWithin (At place) x) s.1 (optional_within property ms d h is) in
+      let short = leb-true (items_len s.0) 256 (sym (most (items_len s.0)) ∙ (fitting_parts place (array s.0) good.fitting).1) in
+      record { types = all.2.types (All-nil (λ m. IsConfigMember m.1)) (list_within place s.0 good); names = named.names; distinct = named.shown.distinct; few = omega (arith, counted, short) } in
+      subst (λ x. Says (members_behind [] (unwrap_or (as_array x) no_items)) IsListed) (sym s.1) (all.0, all.1, (named.shown.free, allowed))
 
   listed_says : Says (listed name ms) IsListed
   unfolding listed list_in shown_members
@@ -325,9 +299,9 @@ struct_of : (members : List (List ℕ × MemberType)) (align : ℕ) (s : StructT
 struct_of members align s (all, least) h = record { members = subst (λ l. AreConfigMembers l) (sym all) h; empty = λ none. least ∙ ap (λ l. align_for l align) (sym all ∙ none) }
 
 object_says : (k : Known) (ms : Members) → RowsSound k places.Structure ms → Says (structure_of ms) (λ s. AreWithin places.Structure ms → IsConfigStruct s)
-unfolding structure_of align_of
+unfolding structure_of align_of itself_of form_of item_content entries_of names_beside
 object_says k ms h =
-    let members = listed_says k Property.members ms members_list h.flaws [] tt in
+    let members = listed_says k Property.members ms (λ d. refl) refl (λ n. refl) h.flaws [] tt in
     let s = made_says members.0 (align_for members.0 (align_of ms)) (aligned members.0 (align_of ms) (alignment_or (codes "minimum-alignment") 1 ms no_alignment)) in
     (s.0, ap (option_and_then (λ all. made all (align_for all (align_of ms)))) members.1 ∙ s.1, λ good. struct_of members.0 (align_of ms) s.0 s.2 (members.2.1 good))
 
@@ -358,9 +332,9 @@ pub record AreExtras (s : StructType) : Type 0 where
   pub no_own_name : All (λ name. list_any (bytes_eq name) own_names ≡ false) (names_in (shown_members 0 s.members))
 
 pub extras_says : (k : Known) (ms : Members) → member_flaws k places.StreamType ms ≡ [] → Says (extra_members (codes "packet-context-field-type-extra-members") ms) (λ s. AreWithin places.StreamType ms → AreExtras s)
-unfolding extra_members names_beside
+unfolding extra_members itself_of form_of item_content entries_of names_beside
 extras_says k ms f =
-    let members = listed_says k Property.extras ms extras_list f own_names (refl, (refl, (refl, (refl, (refl, (refl, tt)))))) in
+    let members = listed_says k Property.extras ms (λ d. refl) refl (λ n. refl) f own_names (refl, (refl, (refl, (refl, (refl, (refl, tt)))))) in
     let s = made_says members.0 1 no_alignment in
     let all = s.2.0 in (
       s.0,

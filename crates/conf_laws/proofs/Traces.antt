@@ -1,13 +1,13 @@
--- What a configuration says that has no flaw, from its features to the trace around them; and that what it says is what the rules allow by
--- itself, where it also passes no limit and its names are in order.
-use Rattle.std.proofs.Common.{◌≡◌, ℕ, ◌&&◌, Bool, true, false, cond, List, Option, Some, None, is_some, IsSome, refl, sym, ap, subst, ◌∙◌, append_assoc, pos, ◌<◌, ◌^◌, [], ◌∷◌, ◌++◌, Ok, Err, arith, nat_le, codes, option_map, option_and_then, unwrap_or}
+-- What a configuration says that has no flaw, from its features to the trace around them; and that what it says is what the rules allow,
+-- where it also passes no limit, its names are in order, and it keeps the rules over the whole.
+use Rattle.std.proofs.Common.{◌≡◌, ℕ, ◌&&◌, Bool, true, false, cond, List, Option, Some, None, is_some, IsSome, refl, sym, ap, subst, ◌∙◌, append_assoc, pos, ◌<◌, ◌^◌, [], map, ◌∷◌, ◌++◌, Ok, Err, arith, nat_le, codes, option_map, option_and_then, unwrap_or}
 use Rattle.conf_laws.proofs.AllowedMaps.{IsMade, integer_says, config_name, AreAllowed, AreUnder, none_under, last_under, map_allowed, AreClocks, clocks_allowed, IsEnvironment, environment_allowed}
 use Rattle.conf_laws.proofs.Structures.{AreExtras, structure_says, extras_says}
 use Rattle.conf_laws.proofs.Numbers.{number_told, natural_is_in}
-use Rattle.conf_laws.proofs.Properties.{IsWithin, AreWithin, object_within, optional_within, entry_within, all_within, flaws_in, names_of, Property, leads, needed_by, OwnPlace, is_object, is_own, MapPlace, is_map, type_object}
-use Rattle.conf_laws.proofs.Readings.{Says, mapped_says, same_natural, was_so, object_there, optional_found, by_found}
+use Rattle.conf_laws.proofs.Properties.{IsWithin, AreWithin, is_within, object_within, optional_within, entry_within, all_within, flaws_in, names_of, Property, leads, needed_by, OwnPlace, is_object, is_own, MapPlace, is_map, type_object}
+use Rattle.conf_laws.proofs.Readings.{Says, some_same, mapped_says, same_natural, was_so, object_there, optional_found, by_found}
 use Rattle.conf_laws.proofs.Sound.{TypeSound, type_sound, unsigned_told, Leads, RowsSound, needed_sound, optional_sound, ObjectSound, ContentSound, object_sound, content_sound, held_at, first_entry, needed_object}
-use Rattle.conf_laws.proofs.Words.{admits_class, Place, At, Level, class_of, is_null, Known, inside, behind, nothing, members_or_none, natural_in, is_position, shape_of, is_identifier, is_byte, is_unsigned_integer, is_number, is_eight, at_most, entries_of, key_of, key_by, itself_of, leaf_of, level, whole_from, member_flaws, configuration_flaws, optional, as_natural, Data, null, boolean, object, string, Members, no_members, members_len, get_member, member, as_object, here, NoSuchAlias, false≢true, and_parts, same_Some, append-nil, option_map_or, alignment_of, alignment, number_type, magic_type, byte_type, feature_of, feature, byte_of, identifier, size, mapped, timestamp, header, context, event_header, integer, size_of, default_align, integer_align as align_of, natural, object_at as object_named, properties, said_behind, word, OnlyIf, IsPlainUnsigned, ContextFeatures, EventFeatures, HeaderFeatures, IntType, environment, level_of, event_type, event_types, clock_of, stream_type, stream_types, draft_with, draft_of_type, draft_of_trace, draft_of_root, draft_of, IsConfigStruct, IsConfigName, Config, EnvironmentEntry, EventType, StreamType, is_unsigned_class}
+use Rattle.conf_laws.proofs.Words.{admits_class, Place, At, Level, class_of, is_null, Known, inside, behind, nothing, members_or_none, natural_in, is_position, shape_of, is_identifier, is_byte, is_unsigned_integer, is_number, is_eight, at_most, entries_of, key_of, key_by, itself_of, leaf_of, level, whole_from, member_flaws, configuration_flaws, configuration_limits, Ascends, All-map, IsStreamType, IsEventType, IsConfig, IsPlainName, ClockType, Draft, KeepsStreamRules, KeepsRules, RecordHasBits, optional, as_natural, Data, null, boolean, object, string, Members, no_members, members_len, get_member, member, as_object, here, NoSuchAlias, false≢true, and_parts, same_Some, append-nil, option_map_or, alignment_of, alignment, number_type, magic_type, byte_type, feature_of, feature, byte_of, identifier, size, mapped, timestamp, header, context, event_header, integer, size_of, default_align, integer_align as align_of, natural, object_at as object_named, properties, said_behind, word, OnlyIf, IsPlainUnsigned, ContextFeatures, EventFeatures, HeaderFeatures, IntType, environment, level_of, event_type, event_types, clock_of, stream_type, stream_types, draft_with, draft_of_type, draft_of_trace, draft_of_root, draft_of, IsConfigStruct, IsConfigName, Config, EnvironmentEntry, EventType, StreamType, is_unsigned_class}
 use Rattle.conf_laws.proofs.Words.places
 
 -- ---- unsigned integers
@@ -230,19 +230,18 @@ level_allowed k ms n f e =
     by_found (λ (o : Option Data). level_of k.levels o ≡ Some n → n < 2 ^ 63) (optional (codes "log-level") ms)
     (λ is e. absurd cc) (λ d is e. level_small k.levels d n (optional_sound k places.EventType (codes "log-level") (Level (pos highest)) ms d (leads Property.level) f is).value.itself e) e
 
--- what the rules say of an event record type, but for its bits
-pub record IsGoodEvent (e : EventType) : Type 0 where
-  pub name : IsConfigName e.name
-  pub log_level : (n : ℕ) → e.log_level ≡ Some n → n < 2 ^ 63
-  pub specific : IsConfigStruct e.specific
-  pub payload : IsConfigStruct e.payload
+-- the rules allow an event record type, where its records have bits
+abbrev IsGoodEvent : EventType → Type 0
+IsGoodEvent e = (s : StreamType) → RecordHasBits s e → IsEventType s e
 
 event_says : (k : Known) (name : List ℕ) (ms : Members) → IsConfigName name → member_flaws k places.EventType ms ≡ [] → Says (event_type k.levels name ms) (λ e. (e.name ≡ name) × (AreWithin places.EventType ms → IsGoodEvent e))
 unfolding event_type
 event_says k name ms named f =
     let specific = structure_says k Property.specific ms f in
     let payload = structure_says k Property.payload ms f in
-    (record { name = name; log_level = level_of k.levels (optional (codes "log-level") ms); specific = specific.0; payload = payload.0 }, rw (specific.1, payload.1) refl, (refl, λ h. record { name = named; log_level = λ n is. level_allowed k ms n f is; specific = specific.2 h; payload = payload.2 h }))
+    let level = level_of k.levels (optional (codes "log-level") ms) in
+    let said : EventType = record { name = name; log_level = level; specific = specific.0; payload = payload.0 } in
+    (said, rw (specific.1, payload.1) refl, (refl, λ h s bits. record { name = named; log_level = λ n is. level_allowed k ms n f is; specific = specific.2 h; payload = payload.2 h; has_bits = bits }))
 
 abbrev event_name : EventType → List ℕ
 event_name e = e.name
@@ -258,14 +257,31 @@ events_say k ms f =
 
 -- ---- data stream types
 
--- what the rules say of a data stream type by itself
-pub record IsGoodStream (s : StreamType) : Type 0 where
-  pub name : IsConfigName s.name
-  pub context : IsContext s.default_clock s.context
-  pub extras : AreExtras s.extras
-  pub event_header : IsEventHeader s.default_clock s.event_header
-  pub common : IsConfigStruct s.common
-  pub events : AreGoodEvents s.events
+-- the rules allow a data stream type, where it keeps the rules over the whole
+abbrev IsGoodStream : StreamType → Type 0
+IsGoodStream s = (clocks : List (List ℕ)) → KeepsStreamRules clocks s → IsStreamType clocks s
+
+stream_allowed : (clocks : List (List ℕ)) (s : StreamType) → IsConfigName s.name → IsContext s.default_clock s.context → AreExtras s.extras → IsEventHeader s.default_clock s.event_header → IsConfigStruct s.common → AreGoodEvents s.events → KeepsStreamRules clocks s → IsStreamType clocks s
+stream_allowed clocks s named packet extras head common all rules = record {
+  name = named;
+  default_clock = rules.default_clock;
+  packet_size = packet.packet_size;
+  content_size = packet.content_size;
+  timestamp_begin = λ t is. let a = packet.timestamp_begin t is in let b = rules.timestamp_begin t is in (a.0, b.0, b.1, a.1);
+  timestamp_end = λ t is. let a = packet.timestamp_end t is in let b = rules.timestamp_end t is in (a.0, b.0, b.1, a.1);
+  events_discarded = packet.events_discarded;
+  packet_seq_num = packet.packet_seq_num;
+  extras = extras.members;
+  extras_align = extras.align;
+  no_own_name = extras.no_own_name;
+  id = head.id;
+  id_holds = rules.id_holds;
+  timestamp = λ t is. let a = head.timestamp t is in let b = rules.timestamp t is in (a.0, b.0, b.1, b.2, a.1);
+  common = common;
+  events = λ i e at. all.each i e at s (rules.has_bits i e at);
+  events_in_order = all.in_order;
+  events_few = all.few;
+}
 
 stream_says : (k : Known) (name : List ℕ) (ms : Members) → IsConfigName name → member_flaws k places.StreamType ms ≡ [] → Says (stream_type k.levels name ms) (λ s. (s.name ≡ name) × (AreWithin places.StreamType ms → IsGoodStream s))
 unfolding stream_type
@@ -276,11 +292,9 @@ stream_says k name ms named f =
     let extras = extras_says k ms f in
     let header = event_header_says k (clock_of ms) (properties (codes "event-record") features) (flaws_in k Property.event_record OwnPlace.record_features features own) in
     let common = structure_says k Property.common ms f in
-    let events = events_say k ms f in (
-      record { name = name; default_clock = clock_of ms; context = context.0; extras = extras.0; event_header = header.0; common = common.0; events = events.0 },
-      rw (context.1, extras.1, header.1, common.1, events.1) refl,
-      (refl, λ h. record { name = named; context = context.2; extras = extras.2 h; event_header = header.2; common = common.2 h; events = events.2 h }),
-    )
+    let events = events_say k ms f in
+    let said : StreamType = record { name = name; default_clock = clock_of ms; context = context.0; extras = extras.0; event_header = header.0; common = common.0; events = events.0 } in
+    (said, rw (context.1, extras.1, header.1, common.1, events.1) refl, (refl, λ h clocks. stream_allowed clocks said named context.2 (extras.2 h) header.2 (common.2 h) (events.2 h)))
 
 abbrev stream_name : StreamType → List ℕ
 stream_name s = s.name
@@ -296,12 +310,28 @@ streams_say k ms levels f =
 
 -- ---- the trace
 
--- what the rules say of the parts of a configuration by themselves
-pub record IsGoodConfig (c : Config) : Type 0 where
-  pub environment : IsEnvironment c.environment
-  pub clocks : AreClocks c.clocks
-  pub header : IsHeader c.header
-  pub streams : AreGoodStreams c.streams
+-- the rules allow a configuration, where it keeps those over the whole
+abbrev IsGoodConfig : Config → Type 0
+IsGoodConfig c = KeepsRules c → IsConfig c
+
+config_allowed : (c : Config) → IsEnvironment c.environment → AreClocks c.clocks → IsHeader c.header → AreGoodStreams c.streams → KeepsRules c → IsConfig c
+config_allowed c env clocks head streams rules = record {
+  environment_names = All-map IsPlainName (λ e. e.name) c.environment (λ i e at. (env.each i e at).0);
+  environment_values = λ i e at. (env.each i e at).1;
+  environment_in_order = env.in_order;
+  environment_few = env.few;
+  clocks = clocks.each;
+  clocks_in_order = clocks.in_order;
+  clocks_few = clocks.few;
+  magic = head.magic;
+  uuid = head.uuid;
+  uuid_is_there = rules.uuid_is_there;
+  stream_id = head.stream_id;
+  stream_id_holds = rules.stream_id_holds;
+  streams = λ i s at. streams.each i s at (map (λ (k : ClockType). k.name) c.clocks) (rules.streams i s at);
+  streams_in_order = streams.in_order;
+  streams_few = streams.few;
+}
 
 levels_same : (o : Option Data) → members_or_none o ≡ unwrap_or (option_and_then as_object o) no_members
 levels_same (Some (object ms)) = refl
@@ -313,7 +343,7 @@ unfolding draft_of_type
 type_says k given entries ms levels f =
     let header = header_says k (is_some (word (codes "uuid") ms)) (properties (codes "$features") ms) (flaws_in k Property.trace_features OwnPlace.trace_features ms f) in
     let streams = streams_say k ms levels f in
-    (_, ap (λ a. draft_with given entries ms a (stream_types ms)) header.1 ∙ ap (draft_with given entries ms (Some header.0)) streams.1, λ env h. record { environment = env; clocks = clocks_allowed k ms f h; header = header.2; streams = streams.2 h })
+    (_, ap (λ a. draft_with given entries ms a (stream_types ms)) header.1 ∙ ap (draft_with given entries ms (Some header.0)) streams.1, λ env h. config_allowed _ env (clocks_allowed k ms f h) header.2 (streams.2 h))
 
 trace_says : (k : Known) (given : Option (List ℕ)) (ms : Members) → RowsSound k places.Trace ms → Says (draft_of_trace given ms) (λ draft. AreWithin places.Trace ms → IsGoodConfig draft.config)
 unfolding draft_of_trace inside properties object_named
@@ -329,7 +359,7 @@ root_says k given ms h =
     let trace = trace_says k given t.0 t.2 in
     (trace.0, ap (option_and_then (draft_of_trace given)) t.1 ∙ trace.1, λ good. trace.2 (object_within places.Trace places.Trace t.0 ((is_own OwnPlace.trace).own t.0) (optional_within Property.trace ms (object t.0) good (object_there (optional (codes "trace") ms) t.0 t.1))))
 
-pub tree_says : (given : Option (List ℕ)) (d : Data) → configuration_flaws d ≡ [] → Says (draft_of given d) (λ draft. IsWithin (At places.Root) d → IsGoodConfig draft.config)
+tree_says : (given : Option (List ℕ)) (d : Data) → configuration_flaws d ≡ [] → Says (draft_of given d) (λ draft. IsWithin (At places.Root) d → IsGoodConfig draft.config)
 unfolding inside
 tree_says given d f =
     let h = held_at nothing places.Root d (is_object OwnPlace.root) (content_sound nothing (At places.Root) d f) in
@@ -339,3 +369,10 @@ tree_says given d f =
 -- what has no flaw says something
 pub tree_said : (given : Option (List ℕ)) (d : Data) → configuration_flaws d ≡ [] → IsSome (draft_of given d)
 tree_said given d f = ap is_some (tree_says given d f).1
+
+-- what also passes no limit and keeps the rules over the whole is allowed
+pub draft_allowed : (given : Option (List ℕ)) (d : Data) (draft : Draft) → Ascends d → configuration_flaws d ≡ [] → configuration_limits d ≡ [] → draft_of given d ≡ Some draft → KeepsRules draft.config → IsConfig draft.config
+draft_allowed given d draft ascends flaws limits e rules =
+    let says = tree_says given d flaws in
+    let same = some_same (draft_of given d) says.0 draft says.1 e in
+    subst (λ (x : Draft). IsGoodConfig x.config) same (says.2 (is_within (At places.Root) d limits ascends)) rules

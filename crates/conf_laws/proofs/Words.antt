@@ -56,7 +56,7 @@ pub use Rattle.conf_draft.specs.{Streams.clock_of, Structures.align_for, Traces.
 unfoldable pub use Rattle.ctf_types.specs.{Allowed.elements_of, AllowedConfig.LabelsInOrder, Names.is_identifier as is_name, Shown.shown_members}
 pub use Rattle.ctf_types.specs.Allowed.{HasBits as TypeHasBits, IsNest}
 pub use Rattle.ctf_types.specs.AllowedConfig.{AreConfigMembers, InByteOrder, IsClockType, IsConfig, IsConfigLeaf, IsConfigMember, IsConfigStruct, IsEnumeration}
-pub use Rattle.ctf_types.specs.{AllowedConfig.{IsEnvironmentValue, IsPlainUnsigned, IsRangeOf, IsStreamType, OnlyIf, highest, lowest}, FieldTypes.chain_of, Members.names_in}
+pub use Rattle.ctf_types.specs.{AllowedConfig.{IsEnvironmentValue, IsEventType, IsPlainUnsigned, IsRangeOf, IsStreamType, OnlyIf, highest, lowest}, FieldTypes.chain_of, Members.names_in}
 pub use Rattle.ctf_types.specs.{Names.{IsConfigName, IsConfigText, IsPlainName, unused_keywords, used_keywords}, Packets.own_names, Shown.length_name}
 pub use Rattle.ctf_types.specs.{declared.ClockType.ClockType, declared.Config.Config, declared.ContextFeatures.ContextFeatures, declared.EnvironmentEntry.EnvironmentEntry}
 pub use Rattle.ctf_types.specs.{declared.EventFeatures.EventFeatures, declared.EventType.EventType, declared.FieldType.FieldType}
@@ -64,7 +64,7 @@ pub use Rattle.ctf_types.specs.{declared.FieldType.TheVariants.{Enum, Int, Stati
 pub use Rattle.ctf_types.specs.{declared.Length.TheVariants.{At as AtMember, Auto}, declared.Mapping.Mapping, declared.MemberType.MemberType}
 pub use Rattle.ctf_types.specs.{declared.MemberType.TheVariants.{Dyn, Plain}, declared.StreamType.StreamType, declared.StructType.StructType}
 pub use Rattle.conf_laws.specs.Around.{Around, HasBehind, HasBits, HasDefault, HasNumber, IsBehindDefault, IsBeside, IsDynamic, IsTaken, Parts, SaysDefault, TakesName}
-pub use Rattle.conf_laws.specs.{Around.{enumeration_around, item_of, levels_around, member_of}, Rules.{KeepsRules, KeepsStreamRules}}
+pub use Rattle.conf_laws.specs.{Around.{enumeration_around, item_of, levels_around, member_of}, Rules.{KeepsRules, KeepsStreamRules, RecordHasBits}}
 pub use Rattle.conf_laws.specs.TableFlaws.{HasNoBits, HasNotItsRows, IsByte, IsFlawOf, IsIdentifier, IsLeftOut, IsNoClassAt, IsNoShapeAt, IsPropertyOf}
 pub use Rattle.conf_laws.specs.TableLimits.{HasElement, HasTooManyElements, IsArray, IsLongText, IsNoPowerUpTo, Nest, PassesAt, PassesBy, PassesLimitOf, product}
 pub use Rattle.conf_laws.specs.ValueFlaws.{IsNoDefault, IsNoEntry, IsNoFeature, IsNoKey, IsNoLabel, IsNoLevel, IsNoMemberName, IsNoNameAt, IsNoPowerOfTwo, IsNoRange}

@@ -1,4 +1,4 @@
-use Rattle.conf_laws.proofs.AllowedTraces.{draft_allowed}
+use Rattle.conf_laws.proofs.Traces.{draft_allowed}
 use Rattle.conf_laws.proofs.law.sound_drafts_are_allowed.Goals as goal
 
 pub returns : goal.returns
