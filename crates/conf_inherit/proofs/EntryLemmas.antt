@@ -1,13 +1,13 @@
 -- What an index of entries answers is what a search of the entries answers.
-use Rattle.std.proofs.Common.{inr, inl, Bor, ◌≡◌, ◌+◌, ◌≤◌, ◌||◌, ℕ, suc, List, [], ◌∷◌, length, Option, Some, None, option_map, is_some, nat_lt, if◌then◌else◌, Bool, true, false, true≢false, refl, sym, ap, ◌∙◌, subst, arith}
+use Rattle.std.proofs.Common.{inr, inl, Bor, ◌≡◌, ◌+◌, ◌≤◌, ◌||◌, ℕ, suc, List, [], ◌∷◌, length, Option, Some, None, option_map, unwrap_or, is_some, nat_lt, if◌then◌else◌, Bool, true, false, true≢false, refl, sym, ap, ◌∙◌, subst, arith}
 use Rattle.std.proofs.{lemmas.Bool.{or_parts, le-ltb, lt-ltb, cases_Bool}, lemmas.Slice.Eq.bytes_eq-Decides}
-use Rattle.std.specs.{List.{IsAmong, push}, Map.update, Option.{option_or, IfSome}, Slice.IsItemAt, Str.bytes_eq}
+use Rattle.std.specs.{BTreeMap.BTreeMap, List.{IsAmong, push}, Map.update, Option.{option_or, IfSome}, Slice.IsItemAt, Str.bytes_eq}
 use Rattle.serde_json.specs.{Data.{Data, object, Items, no_items, item, Members, no_members, member}, Find.{get, get_member, get_item}, View.{view, items_view}}
 use Rattle.serde_json.specs.declared.value.Value.{Value}
 use Rattle.serde_json.proofs.Views.{get_item_within, get_item_past}
-use Rattle.conf_inherit.specs.EntryIndex.{place_if, place_from, lower, lowest, lowest_of, lay_over_found}
-use Rattle.conf_inherit.specs.Laying.{has_entry, lay_over, lay_over_entry, lay_over_member}
-use Rattle.conf_inherit.proofs.LayingLemmas.{some_is_none, cases_Option, get_first, same, other, meets, get_other, get_same, differs}
+use Rattle.conf_inherit.specs.EntryIndex.{HasPlaces, place_at, place_if, place_from, lower, lowest}
+use Rattle.conf_inherit.specs.{Laying.{has_entry, lay_over, lay_over_entry, lay_over_member}, Names.properties_of}
+use Rattle.conf_inherit.proofs.LayingLemmas.{same_function, some_is_none, cases_Option, get_first, same, other, meets, get_other, get_same, differs}
 
 -- ---- the first place of a name
 
@@ -83,15 +83,6 @@ lower_first i (Some j) h = rw (le-ltb j i h) refl
 lower_second : (i : ℕ) (o q : Option ℕ) → AtLeast (suc i) o → q ≡ Some i → lower o q ≡ Some i
 lower_second i None q h e = e
 lower_second i (Some p) q h e = rw (e, lt-ltb i p h) refl
-
--- names that have the same places have the same lowest one
-pub same_lowest : (f g : List ℕ → Option ℕ) → ((n : List ℕ) → f n ≡ g n) → (d : Data) → lowest_of f d ≡ lowest_of g d
-same_lowest f g h (object ms) = go ms
-  where
-    go : (ms : Members) → lowest f ms ≡ lowest g ms
-    go no_members = refl
-    go (member n d ms) = ap (λ o. lower o (lowest f ms)) (h n) ∙ ap (lower (g n)) (go ms)
-same_lowest f g h _ = refl
 
 -- one of the names is that of a property of the value
 abbrev shares : Members → Data → Bool
@@ -191,9 +182,13 @@ plain_over : (done : Members) (es : Items) (b : Data) → ((n : List ℕ) → ge
 plain_over done no_items b none = refl
 plain_over done (item e es) b none = plain_entry done e b (lay_over done es b) none ∙ plain_over done es b none
 
-pub finds : (es : Items) (b : Data) → Finds 0 es b (lowest_of (λ n. place_from 0 n es) b)
+finds : (es : Items) (b : Data) → Finds 0 es b (lowest (λ n. place_from 0 n es) (properties_of b))
 finds es (object bs) = finds_object 0 es bs
 finds es _ = λ done. plain_over done es _ (λ n. refl)
+
+pub found_by_index : (es : Items) (b : Data) (places : BTreeMap (Bor (List ℕ)) ℕ) (o : Option ℕ) → HasPlaces places es → lowest (λ n. place_at places n) (properties_of b) ≡ o → Finds 0 es b o
+found_by_index es b places o placed is =
+    subst (Finds 0 es b) (ap (λ f. lowest f (properties_of b)) (sym (same_function (λ n. place_at places n) (λ n. place_from 0 n es) placed)) ∙ is) (finds es b)
 
 -- the item at a place, as data
 item_at : (vs : List Value) (p : ℕ) (r : Option (Bor Value)) → IsItemAt vs p r → option_map (λ x. view x.now) r ≡ get_item p (items_view vs)
@@ -202,10 +197,10 @@ item_at vs p (Some x) h = ap (λ v. Some (view v)) h.1 ∙ get_item_within vs p 
 
 -- the item that is found is the one that is laid over the value
 pub found_first : (vs : List Value) (b : Data) (p : ℕ) (r : Option (Bor Value)) → Finds 0 (items_view vs) b (Some p) → IsItemAt vs p r
-    → (done : Members) → lay_over done (items_view vs) b ≡ lay_over_found done (option_map (λ e. view e.now) r) b
+    → (done : Members) → lay_over done (items_view vs) b ≡ unwrap_or (option_map (λ e. lay_over_entry done e b b) (option_map (λ e. view e.now) r)) b
 found_first vs b p r (k, e, sum, at, laid) h done =
     let one : option_map (λ x. view x.now) r ≡ Some e = item_at vs p r h ∙ ap (λ i. get_item i (items_view vs)) (let same : p ≡ k = omega arith in same) ∙ at in
-    laid done ∙ ap (λ o. lay_over_found done o b) (sym one)
+    laid done ∙ ap (λ o. unwrap_or (option_map (λ e. lay_over_entry done e b b) o) b) (sym one)
 
 -- it is one of the items
 pub among_items : (vs : List Value) (p : ℕ) (r : Option (Bor Value)) → IsItemAt vs p r → IfSome r (λ x. IsAmong vs x.now)

@@ -11,24 +11,16 @@ use Rattle.conf_table.specs.declared.place.Place.TheVariants as places
 use Rattle.conf_inherit.specs.{FieldPlaces.{place_under, place_of_items, names_alias, names_member_type, lists_members, is_entry}, Names.{entries_of, NoClash}}
 use Rattle.conf_inherit.specs.Flaws.{is_wrong, is_no_entry, is_no_member, is_unknown, own_flaws, base_flaws, inner_flaws, item_flaws, member_flaws, mark, mark_names}
 use Rattle.conf_inherit.specs.{Ready.{Names, IsReady, AreReady, HasReady}, Named.{all_named, all_named_in_items, all_named_in_members, has}}
-use Rattle.conf_inherit.specs.{Faults.{Leads, HasEntry, SaysOf, FlawHolds}, Circle.{Mentions, MentionsInItems, MentionsInMembers}, SeenNames.members_named}
+use Rattle.conf_inherit.specs.{Faults.{Leads, HasEntry, FlawHolds}, Circle.{Mentions, MentionsInItems, MentionsInMembers}, SeenNames.members_named}
 use Rattle.conf_inherit.proofs.{FieldPlaceLemmas.{list_place, entry_list}, LayingLemmas.{get_other, same, other, meets, stands}}
 
-pub part_empty : {A B : Type 0} (f : A → B) (xs : List A) (ys : List B) → map f xs ++ ys ≡ [] → xs ≡ []
-part_empty f [] ys e = refl
-part_empty f (x ∷ xs) ys e = cc
+pub part_empty : {A B : Type 0} (f : A → B) (xs : List A) (ys : List B) → map f xs ++ ys ≡ [] → (xs ≡ []) × (ys ≡ [])
+part_empty f [] ys e = (refl, e)
+part_empty f (x ∷ xs) ys e = absurd cc
 
-pub rest_empty : {A B : Type 0} (f : A → B) (xs : List A) (ys : List B) → map f xs ++ ys ≡ [] → ys ≡ []
-rest_empty f [] ys e = e
-rest_empty f (x ∷ xs) ys e = cc
-
-pub front_empty : {A : Type 0} (xs ys : List A) → xs ++ ys ≡ [] → xs ≡ []
-front_empty [] ys e = refl
-front_empty (x ∷ xs) ys e = cc
-
-pub back_empty : {A : Type 0} (xs ys : List A) → xs ++ ys ≡ [] → ys ≡ []
-back_empty [] ys e = e
-back_empty (x ∷ xs) ys e = cc
+pub joined_empty : {A : Type 0} (xs ys : List A) → xs ++ ys ≡ [] → (xs ≡ []) × (ys ≡ [])
+joined_empty [] ys e = (refl, e)
+joined_empty (x ∷ xs) ys e = absurd cc
 
 pub same_part : (f : Flaw → Flaw) (a b c x y z : List Flaw) → a ≡ x → b ≡ y → c ≡ z → map f (a ++ b) ++ c ≡ map f (x ++ y) ++ z
 same_part f a b c x y z p q r = cc
@@ -88,25 +80,22 @@ module _ (al : Members) (rs : Option Members) where
   pub item_parts : (s : Place) (i : ℕ) (seen : Members) (v : Data) (es : Items) → item_flaws al rs s i seen (item v es) ≡ []
       → (own_flaws al (place_of_items s) false v ≡ []) × (inner_flaws al rs (place_of_items s) seen v ≡ []) × (item_flaws al rs s (suc i) (mark v seen) es ≡ [])
   item_parts s i seen v es h =
-      let own = own_flaws al (place_of_items s) false v in
-      let inner = inner_flaws al rs (place_of_items s) seen v in
-      let here_none = part_empty (within (index i)) (own ++ inner) (item_flaws al rs s (suc i) (mark v seen) es) h in
-      (front_empty own inner here_none, back_empty own inner here_none, rest_empty (within (index i)) (own ++ inner) (item_flaws al rs s (suc i) (mark v seen) es) h)
+      let (mine, later) = part_empty (within (index i)) _ _ h in
+      let (own, inner) = joined_empty _ _ mine in
+      (own, inner, later)
 
   -- so it is with the properties of an object
   pub member_parts : (s : Place) (seen : Members) (k : List ℕ) (d : Data) (ms : Members) → member_flaws al rs s seen (member k d ms) ≡ []
       → (own_flaws al (place_under s k) (is_entry s && is_some (get_member k seen)) d ≡ []) × (inner_flaws al rs (place_under s k) no_members d ≡ []) × (member_flaws al rs s seen ms ≡ [])
   member_parts s seen k d ms h =
-      let own = own_flaws al (place_under s k) (is_entry s && is_some (get_member k seen)) d in
-      let inner = inner_flaws al rs (place_under s k) no_members d in
-      let both = (own ++ inner) ++ base_flaws rs s k d in
-      let here_none = front_empty (own ++ inner) (base_flaws rs s k d) (part_empty (within (key k)) both (member_flaws al rs s seen ms) h) in
-      (front_empty own inner here_none, back_empty own inner here_none, rest_empty (within (key k)) both (member_flaws al rs s seen ms) h)
+      let (mine, later) = part_empty (within (key k)) _ _ h in
+      let (own, inner) = joined_empty _ _ (joined_empty _ _ mine).0 in
+      (own, inner, later)
 
   apart_at : (s : Place) (i : ℕ) (seen : Members) (v : Data) (es : Items) → is_no_entry v ≡ false → inner_flaws al rs places.Entry seen v ≡ [] → (Apart (mark v seen) (entries_of es)) → Apart seen (entries_of (item v es))
   unfolding is_entry
   apart_at s i seen (object (member n d no_members)) es single h a =
-      let own = front_empty _ _ (front_empty _ _ (part_empty (within (key n)) _ _ h)) in
+      let own = (joined_empty _ _ (joined_empty _ _ (part_empty (within (key n)) _ _ h).0).0).0 in
       let free : has seen n ≡ false = (own_sound al (place_under places.Entry n) (is_entry places.Entry && has seen n) d own).free in
       apart_more n d seen (entries_of es) free a
   apart_at s i seen (object (member n d (member m e ms))) es single h a = absurd (true≢false single)
@@ -148,74 +137,42 @@ module _ (al : Members) (rs : Option Members) where
 
 -- Each flaw that is listed holds at its path.
 
--- a flaw is among those of a list
-abbrev pub Among : Flaw → List Flaw → Type 0
-Among f [] = ⊥
-Among f (g ∷ fs) = (f ≡ g) ⊎ Among f fs
+-- P is told of each flaw of a list
+pub data Each (P : Flaw → Type 0) : List Flaw → Type 0 where
+  no_flaw : Each P []
+  a_flaw : {f : Flaw} {fs : List Flaw} → P f → Each P fs → Each P (f ∷ fs)
 
-pub only : (f g : Flaw) → Among f (g ∷ []) → f ≡ g
-only f g (inl e) = e
-only f g (inr h) = absurd h
+pub joined : {P : Flaw → Type 0} {xs ys : List Flaw} → Each P xs → Each P ys → Each P (xs ++ ys)
+joined no_flaw h = h
+joined (a_flaw p ps) h = a_flaw p (joined ps h)
 
--- the first flaw is one of them
-pub refused_among : (fs : List Flaw) (f : Flaw) → refusal fs ≡ Err f → Among f fs
-refused_among [] f h = cc
-refused_among (g ∷ fs) f h = inl (let e : f ≡ g = cc in e)
+pub each_along : {P Q : Flaw → Type 0} {xs : List Flaw} → ((f : Flaw) → P f → Q f) → Each P xs → Each Q xs
+each_along along no_flaw = no_flaw
+each_along along (a_flaw p ps) = a_flaw (along _ p) (each_along along ps)
 
-pub among_joined : (f : Flaw) (xs ys : List Flaw) → Among f (xs ++ ys) → Among f xs ⊎ Among f ys
-among_joined f [] ys h = inr h
-among_joined f (x ∷ xs) ys (inl e) = inl (inl e)
-among_joined f (x ∷ xs) ys (inr h) = elim (among_joined f xs ys h) [ inl a ↦ inl (inr a) | inr b ↦ inr b ]
+pub part : {P : Flaw → Type 0} (p : Step) {xs : List Flaw} → Each (λ f. P (within p f)) xs → Each P (map (within p) xs)
+part p no_flaw = no_flaw
+part p (a_flaw h hs) = a_flaw h (part p hs)
 
-pub first_or_rest : {A : Type 0} (f : Flaw) (xs ys : List Flaw) → Among f (xs ++ ys) → (Among f xs → A) → (Among f ys → A) → A
-first_or_rest f xs ys h g k = elim (among_joined f xs ys h) [ inl a ↦ g a | inr a ↦ k a ]
-
-pub among_within : (p : Step) (f : Flaw) (xs : List Flaw) → Among f (map (within p) xs) → (g : Flaw) × (f ≡ within p g) × Among g xs
-among_within p f (x ∷ xs) (inl e) = (x, e, inl refl)
-among_within p f (x ∷ xs) (inr h) = let (g, e, a) = among_within p f xs h in (g, e, inr a)
-among_within p f [] h = absurd h
+pub first_told : {P : Flaw → Type 0} {fs : List Flaw} (f : Flaw) → Each P fs → refusal fs ≡ Err f → P f
+first_told f no_flaw e = absurd cc
+first_told {P} f (a_flaw {f = g} p ps) e = let same : g ≡ f = cc in subst P same p
 
 module _ (al : Members) where
   -- one step further out
+  further : (p : Step) (s t : Place) (v d : Data) → ((path : List Step) (u : Place) (w : Data) → Leads t d path u w → Leads s v (p ∷ path) u w) → (f : Flaw) → FlawHolds al t d f → FlawHolds al s v (within p f)
+  further p s t v d out f (inl (u, w, leads, says)) = inl (u, w, out f.path u w leads, says)
+  further p s t v d out f (inr (inl (e, (front, u, es, i, j, n, path, leads, lists, below, a, b)))) = inr (inl (e, (p ∷ front, u, es, i, j, n, ap (λ q. p ∷ q) path, out front u (array es) leads, lists, below, a, b)))
+  further p s t v d out f (inr (inr (e, (front, n, path, leads, walks)))) = inr (inr (e, (p ∷ front, n, ap (λ q. p ∷ q) path, out front places.FieldTypeAliases (object al) leads, walks)))
+
   pub holds_in_object : (s : Place) (k : List ℕ) (d : Data) (ms : Members) (f : Flaw) → HasMember k d ms → FlawHolds al (place_under s k) d f → FlawHolds al s (object ms) (within (key k) f)
-  holds_in_object s k d ms f m (inl (t, w, leads, says)) = inl (t, w, (ms, d, refl, m, leads), says)
-  holds_in_object s k d ms f m (inr (inl (e, (front, t, es, i, j, n, path, leads, lists, below, a, b)))) =
-      inr (inl (e, (key k ∷ front, t, es, i, j, n, ap (λ p. key k ∷ p) path, (ms, d, refl, m, leads), lists, below, a, b)))
-  holds_in_object s k d ms f m (inr (inr (e, (front, n, path, leads, walks)))) =
-      inr (inr (e, (key k ∷ front, n, ap (λ p. key k ∷ p) path, (ms, d, refl, m, leads), walks)))
+  holds_in_object s k d ms f there h = further (key k) s (place_under s k) (object ms) d (λ path u w leads. (ms, d, refl, there, leads)) f h
 
   pub holds_in_list : (s : Place) (i : ℕ) (d : Data) (es : Items) (f : Flaw) → get_item i es ≡ Some d → FlawHolds al (place_of_items s) d f → FlawHolds al s (array es) (within (index i) f)
-  holds_in_list s i d es f m (inl (t, w, leads, says)) = inl (t, w, (es, d, refl, m, leads), says)
-  holds_in_list s i d es f m (inr (inl (e, (front, t, ds, x, j, n, path, leads, lists, below, a, b)))) =
-      inr (inl (e, (index i ∷ front, t, ds, x, j, n, ap (λ p. index i ∷ p) path, (es, d, refl, m, leads), lists, below, a, b)))
-  holds_in_list s i d es f m (inr (inr (e, (front, n, path, leads, walks)))) =
-      inr (inr (e, (index i ∷ front, n, ap (λ p. index i ∷ p) path, (es, d, refl, m, leads), walks)))
-
-  -- the flaw of a value itself: its kind is wrong, its name unknown, or its name taken
-  pub own_is : (s : Place) (taken : Bool) (v : Data) (f : Flaw) → Among f (own_flaws al s taken v)
-      → ((f ≡ here WrongKind) × (is_wrong s v ≡ true)) ⊎ (((f ≡ here NoSuchAlias) × (is_unknown al s v ≡ true)) ⊎ ((f ≡ here NameClash) × (taken ≡ true)))
-  own_is s taken v f h = go (is_wrong s v) refl (is_unknown al s v) refl taken refl
-    where
-      go : (t : Bool) → is_wrong s v ≡ t → (u : Bool) → is_unknown al s v ≡ u → (b : Bool) → taken ≡ b
-          → ((f ≡ here WrongKind) × (is_wrong s v ≡ true)) ⊎ (((f ≡ here NoSuchAlias) × (is_unknown al s v ≡ true)) ⊎ ((f ≡ here NameClash) × (taken ≡ true)))
-      go true a u b t e = inl (only f (here WrongKind) (rw a at h), a)
-      go false a true b t e = inr (inl (only f (here NoSuchAlias) (rw (a, b) at h), b))
-      go false a false b true e = inr (inr (only f (here NameClash) (rw (a, b, e) at h), e))
-      go false a false b false e = absurd (rw (a, b, e) at h)
-
-  holds_here : (s : Place) (v : Data) (f g : Flaw) → f ≡ g → g.path ≡ [] → SaysOf al g.kind s v → FlawHolds al s v f
-  holds_here s v f g e p says = inl (s, v, subst (λ x. Leads s v x s v) (sym (ap (λ y. y.path) e ∙ p)) (refl, refl), subst (λ x. SaysOf al x s v) (sym (ap (λ y. y.kind) e)) says)
-
-  -- a flaw of a value itself holds, or its name is taken
-  own_holds : (s : Place) (taken : Bool) (v : Data) (f : Flaw) → Among f (own_flaws al s taken v) → FlawHolds al s v f ⊎ ((f ≡ here NameClash) × (taken ≡ true))
-  own_holds s taken v f h = elim (own_is s taken v f h) [
-    | inl (e, wrong) ↦ inl (holds_here s v f (here WrongKind) e refl (inl wrong))
-    | inr (inl (e, unknown)) ↦ inl (holds_here s v f (here NoSuchAlias) e refl (inl unknown))
-    | inr (inr clash) ↦ inr clash
-  ]
+  holds_in_list s i d es f there h = further (index i) s (place_of_items s) (array es) d (λ path u w leads. (es, d, refl, there, leads)) f h
 
 -- the name of an entry that one before it has
-abbrev Taken : Place → Members → Data → Flaw → Type 0
+abbrev pub Taken : Place → Members → Data → Flaw → Type 0
 Taken s seen v f = (n : List ℕ) × (d : Data) × (ms : Members) × (v ≡ object ms) × HasMember n d ms × (is_entry s ≡ true) × (has seen n ≡ true) × (f ≡ within (key n) (here NameClash))
 
 -- the names that are seen are those of entries before the place i
@@ -225,6 +182,9 @@ Seen es i seen = (n : List ℕ) → has seen n ≡ true → (j : ℕ) × (j < i)
 -- what is left of a list stands from the place i on
 abbrev pub Aligned : Items → ℕ → Items → Type 0
 Aligned es i rest = (j : ℕ) (d : Data) → get_item j rest ≡ Some d → get_item (i + j) es ≡ Some d
+
+pub aligned_all : (es : Items) → Aligned es 0 es
+aligned_all es j d f = let same : j ≡ 0 + j = omega arith in subst (λ x. get_item x es ≡ Some d) same f
 
 pub aligned_next : (es : Items) (i : ℕ) (e : Data) (rest : Items) → Aligned es i (item e rest) → Aligned es (suc i) rest
 aligned_next es i e rest h j d f = let same : i + suc j ≡ suc i + j = omega arith in subst (λ x. get_item x es ≡ Some d) same (h (suc j) d f)
@@ -249,102 +209,85 @@ seen_next_at es i _ seen is before n h = let (j, lt, m) = before n h in (j, (let
 pub none_seen : (n : List ℕ) → has no_members n ≡ true → ⊥
 none_seen n h = true≢false (sym h)
 
--- each limit that is listed of the value of a `$inherit` holds
-abbrev pub BasesHold : Members → Option Members → Type 0
-BasesHold al rs = (s : Place) (k : List ℕ) (d : Data) (f : Flaw) → Among f (base_flaws rs s k d) → FlawHolds al (place_under s k) d f
-
 -- what is told of a flaw in a part is told of it in the whole, and it is told of each flaw that a value has by itself
 pub record IsTold (al : Members) (rs : Option Members) (P : Place → Data → Flaw → Type 0) : Type 0 where
   pub in_object : (s : Place) (k : List ℕ) (d : Data) (ms : Members) (f : Flaw) → HasMember k d ms → P (place_under s k) d f → P s (object ms) (within (key k) f)
   pub in_list : (s : Place) (i : ℕ) (d : Data) (es : Items) (f : Flaw) → get_item i es ≡ Some d → P (place_of_items s) d f → P s (array es) (within (index i) f)
-  pub own : (s : Place) (taken : Bool) (v : Data) (f : Flaw) → Among f (own_flaws al s taken v) → P s v f ⊎ ((f ≡ here NameClash) × (taken ≡ true))
+  pub wrong : (s : Place) (v : Data) → is_wrong s v ≡ true → P s v (here WrongKind)
+  pub unknown : (s : Place) (v : Data) → is_unknown al s v ≡ true → P s v (here NoSuchAlias)
   pub clash : (s : Place) (es : Items) (i j : ℕ) (n : List ℕ) → lists_members s ≡ true → j < i → HasEntry j n es → HasEntry i n es → P s (array es) (within (index i) (within (key n) (here NameClash)))
-  pub bases : (s : Place) (k : List ℕ) (d : Data) (f : Flaw) → Among f (base_flaws rs s k d) → P (place_under s k) d f
+  pub bases : (s : Place) (k : List ℕ) (d : Data) → Each (P (place_under s k) d) (base_flaws rs s k d)
 
-pub holds_told : (al : Members) (rs : Option Members) → BasesHold al rs → IsTold al rs (FlawHolds al)
+-- each flaw holds at its path, where the limits that are listed of the values of `$inherit` do
+pub holds_told : (al : Members) (rs : Option Members) → ((s : Place) (k : List ℕ) (d : Data) → Each (FlawHolds al (place_under s k) d) (base_flaws rs s k d)) → IsTold al rs (FlawHolds al)
 holds_told al rs bases = record {
   in_object = holds_in_object al;
   in_list = holds_in_list al;
-  own = own_holds al;
+  wrong = λ s v is. inl (s, v, (refl, refl), inl is);
+  unknown = λ s v is. inl (s, v, (refl, refl), inl is);
   clash = λ s es i j n lists before first second. inr (inl (refl, ([], s, es, j, i, n, refl, (refl, refl), lists, before, first, second)));
   bases = bases;
 }
 
 module _ (al : Members) (rs : Option Members) (P : Place → Data → Flaw → Type 0) (told : IsTold al rs P) where
-  -- it is told of a flaw that a value has by itself
-  pub of_itself : (s : Place) (v : Data) (f : Flaw) → Among f (own_flaws al s false v) → P s v f
-  of_itself s v f h = elim (told.own s false v f h) [ inl x ↦ x | inr bad ↦ absurd (true≢false (sym bad.1)) ]
-
-  -- a flaw of an item, or in it
-  item_at : (s : Place) (es : Items) (i : ℕ) (seen : Members) (e : Data) (f : Flaw) → get_item i es ≡ Some e → Seen es i seen
-      → (g : Flaw) × (f ≡ within (index i) g) × Among g (own_flaws al (place_of_items s) false e ++ inner_flaws al rs (place_of_items s) seen e)
-      → ((g : Flaw) → Among g (inner_flaws al rs (place_of_items s) seen e) → P (place_of_items s) e g ⊎ Taken (place_of_items s) seen e g)
-      → P s (array es) f
-  item_at s es i seen e f is before (g, same_f, a) deeper = first_or_rest g (own_flaws al (place_of_items s) false e) (inner_flaws al rs (place_of_items s) seen e) a
-      (λ b. holds (of_itself (place_of_items s) e g b))
-      (λ b. elim (deeper g b) [ inl x ↦ holds x | inr taken ↦ clash taken ])
+  -- it is told of a flaw that a value has by itself, or its name is taken
+  own_told : (s : Place) (taken : Bool) (v : Data) → Each (λ f. P s v f ⊎ ((f ≡ here NameClash) × (taken ≡ true))) (own_flaws al s taken v)
+  own_told s taken v = go (is_wrong s v) refl (is_unknown al s v) refl taken
     where
-      holds : P (place_of_items s) e g → P s (array es) f
-      holds x = subst (P s (array es)) (sym same_f) (told.in_list s i e es g is x)
+      go : (a : Bool) → is_wrong s v ≡ a → (b : Bool) → is_unknown al s v ≡ b → (c : Bool) → Each (λ f. P s v f ⊎ ((f ≡ here NameClash) × (c ≡ true))) (own_flaws al s c v)
+      go true a b b' c = rw a (a_flaw (inl (told.wrong s v a)) no_flaw)
+      go false a true b c = rw (a, b) (a_flaw (inl (told.unknown s v b)) no_flaw)
+      go false a false b true = rw (a, b) (a_flaw (inr (refl, refl)) no_flaw)
+      go false a false b false = rw (a, b) no_flaw
 
-      clash : Taken (place_of_items s) seen e g → P s (array es) f
-      clash (n, d, ms, v, m, entry, b, flaw) =
-          let (j, lt, first) = before n b in
-          let all : f ≡ within (index i) (within (key n) (here NameClash)) = same_f ∙ ap (within (index i)) flaw in
-          subst (P s (array es)) (sym all) (told.clash s es i j n (entry_list s entry) lt first (ms, d, is ∙ ap Some v, m))
+  pub of_itself : (s : Place) (v : Data) → Each (P s v) (own_flaws al s false v)
+  of_itself s v = each_along (λ f h. elim h [ inl x ↦ x | inr bad ↦ absurd (true≢false (sym bad.1)) ]) (own_told s false v)
 
-  -- a flaw of a property, or in it
-  member_at : (s : Place) (ms : Members) (seen : Members) (k : List ℕ) (d : Data) (f : Flaw) → HasMember k d ms
-      → (g : Flaw) × (f ≡ within (key k) g) × Among g ((own_flaws al (place_under s k) (is_entry s && has seen k) d ++ inner_flaws al rs (place_under s k) no_members d) ++ base_flaws rs s k d)
-      → ((g : Flaw) → Among g (inner_flaws al rs (place_under s k) no_members d) → P (place_under s k) d g ⊎ Taken (place_under s k) no_members d g)
-      → P s (object ms) f ⊎ Taken s seen (object ms) f
-  member_at s ms seen k d f m (g, same_f, a) deeper =
-      let own = own_flaws al (place_under s k) (is_entry s && has seen k) d in
-      let inner = inner_flaws al rs (place_under s k) no_members d in
-      first_or_rest g (own ++ inner) (base_flaws rs s k d) a
-      (λ b. first_or_rest g own inner b
-      (λ c. elim (told.own (place_under s k) (is_entry s && has seen k) d g c) [ inl x ↦ inl (holds x) | inr (clash, both) ↦ inr (taken clash (and_parts (is_entry s) (has seen k) both)) ])
-      (λ c. elim (deeper g c) [ inl x ↦ inl (holds x) | inr bad ↦ absurd (none_seen bad.0 bad.6) ]))
-      (λ b. inl (holds (told.bases s k d g b)))
-    where
-      holds : P (place_under s k) d g → P s (object ms) f
-      holds x = subst (P s (object ms)) (sym same_f) (told.in_object s k d ms g m x)
+  -- a flaw of an item is told of the list
+  item_told : (s : Place) (es : Items) (i : ℕ) (seen : Members) (e : Data) → get_item i es ≡ Some e → Seen es i seen → (f : Flaw) → P (place_of_items s) e f ⊎ Taken (place_of_items s) seen e f → P s (array es) (within (index i) f)
+  item_told s es i seen e there before f (inl x) = told.in_list s i e es f there x
+  item_told s es i seen e there before f (inr (n, d, ms, v, m, entry, b, flaw)) =
+      let (j, lt, first) = before n b in
+      subst (λ g. P s (array es) (within (index i) g)) (sym flaw) (told.clash s es i j n (entry_list s entry) lt first (ms, d, there ∙ ap Some v, m))
 
-      taken : g ≡ here NameClash → (is_entry s ≡ true) × (has seen k ≡ true) → Taken s seen (object ms) f
-      taken clash both = (k, d, ms, refl, m, both.0, both.1, same_f ∙ ap (within (key k)) clash)
+  -- the name of an entry is a flaw of the entry, where it is taken
+  name_told : (s : Place) (ms : Members) (seen : Members) (k : List ℕ) (d : Data) → HasMember k d ms → (f : Flaw) → P (place_under s k) d f ⊎ ((f ≡ here NameClash) × (is_entry s && has seen k ≡ true))
+      → P s (object ms) (within (key k) f) ⊎ Taken s seen (object ms) (within (key k) f)
+  name_told s ms seen k d m f (inl x) = inl (told.in_object s k d ms f m x)
+  name_told s ms seen k d m f (inr (clash, both)) = let (entry, there) = and_parts (is_entry s) (has seen k) both in inr (k, d, ms, refl, m, entry, there, ap (within (key k)) clash)
+
+  -- a flaw of an entry, with the names of the entries before it, is told of the list
+  pub entry_told : (s : Place) (es : Items) (i : ℕ) (seen : Members) (e : Data) → get_item i es ≡ Some e → Seen es i seen → Each (λ f. P (place_of_items s) e f ⊎ Taken (place_of_items s) seen e f) (inner_flaws al rs (place_of_items s) seen e)
+      → Each (λ f. P s (array es) (within (index i) f)) (own_flaws al (place_of_items s) false e ++ inner_flaws al rs (place_of_items s) seen e)
+  entry_told s es i seen e there before inner =
+      joined (each_along (λ f x. told.in_list s i e es f there x) (of_itself (place_of_items s) e)) (each_along (item_told s es i seen e there before) inner)
 
   mutual
-    inner_holds : (v : Data) (s : Place) (seen : Members) (f : Flaw) → Among f (inner_flaws al rs s seen v) → P s v f ⊎ Taken s seen v f
-    inner_holds (array es) s seen f h = inl (items_hold es s es 0 no_members f (λ j d g. let same : j ≡ 0 + j = omega arith in subst (λ x. get_item x es ≡ Some d) same g) (λ n b. absurd (none_seen n b)) h)
-    inner_holds (object ms) s seen f h = members_hold ms s ms seen f (λ k d m. m) h
-    inner_holds _ s seen f h = absurd h
+    pub inner_told : (v : Data) (s : Place) (seen : Members) → Each (λ f. P s v f ⊎ Taken s seen v f) (inner_flaws al rs s seen v)
+    inner_told (array es) s seen = each_along (λ f x. inl x) (items_told es s es 0 no_members (aligned_all es) (λ n b. absurd (none_seen n b)))
+    inner_told (object ms) s seen = members_told ms s ms seen (λ k d m. m)
+    inner_told _ s seen = no_flaw
 
-    items_hold : (rest : Items) (s : Place) (es : Items) (i : ℕ) (seen : Members) (f : Flaw) → Aligned es i rest → Seen es i seen → Among f (item_flaws al rs s i seen rest) → P s (array es) f
-    items_hold no_items s es i seen f al' before h = absurd h
-    items_hold (item e rest) s es i seen f al' before h =
-        first_or_rest f (map (within (index i)) (own_flaws al (place_of_items s) false e ++ inner_flaws al rs (place_of_items s) seen e)) (item_flaws al rs s (suc i) (mark e seen) rest) h
-        (λ a. item_at s es i seen e f (aligned_here es i e rest al') before (among_within (index i) f (own_flaws al (place_of_items s) false e ++ inner_flaws al rs (place_of_items s) seen e) a) (λ g b. inner_holds e (place_of_items s) seen g b))
-        (λ a. items_hold rest s es (suc i) (mark e seen) f (aligned_next es i e rest al') (seen_next_at es i e seen (aligned_here es i e rest al') before) a)
+    items_told : (rest : Items) (s : Place) (es : Items) (i : ℕ) (seen : Members) → Aligned es i rest → Seen es i seen → Each (P s (array es)) (item_flaws al rs s i seen rest)
+    items_told no_items s es i seen left before = no_flaw
+    items_told (item e rest) s es i seen left before =
+        let there = aligned_here es i e rest left in
+        joined (part (index i) (entry_told s es i seen e there before (inner_told e (place_of_items s) seen)))
+        (items_told rest s es (suc i) (mark e seen) (aligned_next es i e rest left) (seen_next_at es i e seen there before))
 
-    members_hold : (rest : Members) (s : Place) (ms : Members) (seen : Members) (f : Flaw) → ((k : List ℕ) (d : Data) → HasMember k d rest → HasMember k d ms) → Among f (member_flaws al rs s seen rest) → P s (object ms) f ⊎ Taken s seen (object ms) f
-    members_hold no_members s ms seen f within_all h = absurd h
-    members_hold (member k d rest) s ms seen f within_all h =
-        first_or_rest f (map (within (key k)) ((own_flaws al (place_under s k) (is_entry s && has seen k) d ++ inner_flaws al rs (place_under s k) no_members d) ++ base_flaws rs s k d)) (member_flaws al rs s seen rest) h
-        (λ a. member_at s ms seen k d f (within_all k d (inl (refl, refl))) (among_within (key k) f ((own_flaws al (place_under s k) (is_entry s && has seen k) d ++ inner_flaws al rs (place_under s k) no_members d) ++ base_flaws rs s k d) a) (λ g b. inner_holds d (place_under s k) no_members g b))
-        (λ a. members_hold rest s ms seen f (λ q e m. within_all q e (inr m)) a)
+    members_told : (rest : Members) (s : Place) (ms : Members) (seen : Members) → ((k : List ℕ) (d : Data) → HasMember k d rest → HasMember k d ms) → Each (λ f. P s (object ms) f ⊎ Taken s seen (object ms) f) (member_flaws al rs s seen rest)
+    members_told no_members s ms seen sub = no_flaw
+    members_told (member k d rest) s ms seen sub =
+        let there = sub k d (inl (refl, refl)) in
+        joined (part (key k) (joined (joined
+        (each_along (name_told s ms seen k d there) (own_told (place_under s k) (is_entry s && has seen k) d))
+        (each_along (λ f h. elim h [ inl x ↦ inl (told.in_object s k d ms f there x) | inr bad ↦ absurd (none_seen bad.0 bad.6) ]) (inner_told d (place_under s k) no_members)))
+        (each_along (λ f x. inl (told.in_object s k d ms f there x)) (told.bases s k d))))
+        (members_told rest s ms seen (λ q e m. sub q e (inr m)))
 
-  -- each flaw of a value, with no entry before it, holds
-  pub flaw_holds : (s : Place) (v : Data) (f : Flaw) → Among f (own_flaws al s false v ++ inner_flaws al rs s no_members v) → P s v f
-  flaw_holds s v f h = first_or_rest f (own_flaws al s false v) (inner_flaws al rs s no_members v) h (of_itself s v f)
-      (λ a. elim (inner_holds v s no_members f a) [ inl holds ↦ holds | inr taken ↦ absurd (none_seen taken.0 taken.6) ])
-
-  -- a flaw of an entry, with the names of the entries before it, holds, and so does what else is wrong in it
-  pub entry_holds : (s : Place) (es : Items) (i : ℕ) (seen : Members) (e : Data) (f : Flaw) (more : List Flaw) → get_item i es ≡ Some e → Seen es i seen
-      → (g : Flaw) × (f ≡ within (index i) g) × Among g ((own_flaws al (place_of_items s) false e ++ inner_flaws al rs (place_of_items s) seen e) ++ more)
-      → ((g : Flaw) → Among g more → P (place_of_items s) e g) → P s (array es) f
-  entry_holds s es i seen e f more is before (g, same_f, a) deeper = first_or_rest g (own_flaws al (place_of_items s) false e ++ inner_flaws al rs (place_of_items s) seen e) more a
-      (λ b. item_at s es i seen e f is before (g, same_f, b) (λ x c. inner_holds e (place_of_items s) seen x c))
-      (λ b. subst (P s (array es)) (sym same_f) (told.in_list s i e es g is (deeper g b)))
+  -- it is told of each flaw of a value, with no entry before it
+  pub flaws_told : (s : Place) (v : Data) → Each (P s v) (own_flaws al s false v ++ inner_flaws al rs s no_members v)
+  flaws_told s v = joined (of_itself s v) (each_along (λ f h. elim h [ inl x ↦ x | inr bad ↦ absurd (none_seen bad.0 bad.6) ]) (inner_told v s no_members))
 
 -- The names of aliases in a value: where one test passes and another doesn't, and that a value without a flaw
 -- names aliases alone.

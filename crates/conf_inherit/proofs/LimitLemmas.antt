@@ -2,18 +2,17 @@
 use Rattle.std.proofs.Common.{if◌then◌else◌, ◌||◌, ◌≡◌, ◌&&◌, ◌++◌, ℕ, suc, List, map, Option, Some, None, is_some, unwrap_or, Bool, true, false, not, refl, ap, ◌∙◌, subst, ◌⊎◌, inl, inr, ◌↔◌, [], ◌∷◌, Result, Ok, Err, nat_lt, true≢false, sym, arith}
 use Rattle.std.proofs.lemmas.Bool.{or_parts, and_parts, cases_Bool, ltb-false}
 use Rattle.serde_json.specs.{Data.{Data, null, string, array, object, Items, no_items, item, Members, no_members, member, put}, Find.{get, get_member}}
-use Rattle.conf_tree.specs.{Flaw.{key, index, within, Flaw, here}, Walk.refusal, declared.fault_kind.FaultKind.FaultKind}
-use Rattle.conf_tree.specs.declared.fault_kind.FaultKind.TheVariants.{TooDeep, Limit, WrongKind, NoSuchAlias, NameClash}
+use Rattle.conf_tree.specs.{Flaw.{key, index, within, Flaw, here}, declared.fault_kind.FaultKind.FaultKind}
+use Rattle.conf_tree.specs.{Walk.refusal, declared.fault_kind.FaultKind.TheVariants.{TooDeep, Limit, WrongKind, NoSuchAlias, NameClash}}
 use Rattle.conf_table.specs.declared.place.Place.{Place}
-use Rattle.conf_table.specs.declared.place.Place.TheVariants as places
 use Rattle.conf_inherit.specs.FieldPlaces.{place_under, place_of_items, names_alias, names_member_type, is_base_name, lists_members, is_entry, field_type_name}
-use Rattle.conf_inherit.specs.Flaws.{is_wrong, is_unknown, own_flaws, base_flaws, inner_flaws, item_flaws, member_flaws, type_flaws, mark, flaws}
+use Rattle.conf_inherit.specs.{Flaws.{is_wrong, is_unknown, own_flaws, base_flaws, inner_flaws, item_flaws, member_flaws, type_flaws, mark, flaws}, Size.size}
 use Rattle.conf_inherit.specs.Laying.{members_below, items_below, lay_text, has_entry, lay, lay_base, lay_members, lay_over, lay_over_entry, lay_over_member, lay_new, lay_new_entry, lay_new_member}
 use Rattle.conf_inherit.specs.Limits.{fitting, passed, limit_flaws, max_values, max_levels, Fits, Exceeds, Inherits, InheritsInItems, InheritsInMembers}
 use Rattle.conf_inherit.specs.{Named.{all_named, all_named_in_items, all_named_in_members, has}, Names.{join_items, map_items}, Faults.Leads, Nesting.nests}
-use Rattle.conf_inherit.specs.Size.{size}
-use Rattle.conf_inherit.proofs.FaultLemmas.{named_along, own_is, same_part, part_empty, rest_empty, front_empty, back_empty, Among, refused_among, IsTold, flaw_holds, first_or_rest}
+use Rattle.conf_inherit.proofs.FaultLemmas.{named_along, same_part, part_empty, joined_empty, Each, no_flaw, a_flaw, joined, first_told, IsTold, flaws_told}
 use Rattle.conf_inherit.proofs.{LayingLemmas.same_function, FieldPlaceLemmas.{list_place, entry_place, base_place, alias_place}}
+use Rattle.conf_table.specs.declared.place.Place.TheVariants as places
 use borrow.Author.Tests.{ltb-true}
 
 -- the flaws of a value are the same for aliases of the same names, where those of each value of a `$inherit` are
@@ -184,11 +183,17 @@ fitting_value r t h = go (fitting r) (judged r) h
     go o (fits f) e = cc
     go o (exceeds kind past) e = cc
 
--- a limit that is listed is passed
-pub past_at : (r : Data) (o : Result Data FaultKind) (f : Flaw) → Judged r o → Among f (passed o) → (f ≡ here f.kind) × Exceeds f.kind r
-past_at r o f (fits h) a = absurd a
-past_at r o f (exceeds kind past) (inr a) = absurd a
-past_at r o f (exceeds kind past) (inl e) = (e ∙ ap (λ x. here x) (ap (λ x. x.kind) (sym e)), subst (λ x. Exceeds x r) (ap (λ x. x.kind) (sym e)) past)
+-- what is told of each limit that a type passes
+passed_told : (P : Flaw → Type 0) (r : Data) (o : Result Data FaultKind) → ((kind : FaultKind) → Exceeds kind r → P (here kind)) → Judged r o → Each P (passed o)
+passed_told P r o told (fits h) = no_flaw
+passed_told P r o told (exceeds kind past) = a_flaw (told kind past) no_flaw
+
+pub limits_told : (P : Flaw → Type 0) (done : Members) (s : Place) (v : Data) → (all_named (has done) s v ≡ true → (kind : FaultKind) → Exceeds kind (lay done s v None) → P (here kind)) → Each P (limit_flaws done s v)
+limits_told P done s v told = elim (cases_Bool (all_named (has done) s v)) [ inl is ↦ rw is (passed_told P (lay done s v None) _ (told is) (judged (lay done s v None))) | inr is ↦ rw is no_flaw ]
+
+-- and of each limit that the value of a `$inherit` passes
+pub bases_told : (P : Place → Data → Flaw → Type 0) (done : Members) → ((d : Data) → Each (P places.FieldType d) (limit_flaws done places.FieldType d)) → (s : Place) (k : List ℕ) (d : Data) → Each (P (place_under s k) d) (base_flaws (Some done) s k d)
+bases_told P done told s k d = elim (cases_Bool (is_base_name s k)) [ inl is ↦ rw (is, base_place s k is) (told d) | inr is ↦ rw is no_flaw ]
 
 -- nothing is listed where the type fits, and only there
 fits_at : (r : Data) (o : Result Data FaultKind) → Judged r o → (passed o ≡ [] → Fits r) × (Fits r → passed o ≡ [])
@@ -214,14 +219,14 @@ both_empty (x ∷ xs) ys e h = cc
 
 alike_joined : (xs ys zs ws : List Flaw) (P Q : Type 0) → Alike xs ys P → Alike zs ws Q → Alike (xs ++ zs) (ys ++ ws) (P × Q)
 alike_joined xs ys zs ws P Q a b = (
-  λ e. let l = a.0 (front_empty xs zs e) in let r = b.0 (back_empty xs zs e) in (both_empty ys ws l.0 r.0, (l.1, r.1)),
-  λ h. both_empty xs zs (a.1 (front_empty ys ws h.0, h.1.0)) (b.1 (back_empty ys ws h.0, h.1.1)),
+  λ e. let l = a.0 (joined_empty xs zs e).0 in let r = b.0 (joined_empty xs zs e).1 in (both_empty ys ws l.0 r.0, (l.1, r.1)),
+  λ h. both_empty xs zs (a.1 ((joined_empty ys ws h.0).0, h.1.0)) (b.1 ((joined_empty ys ws h.0).1, h.1.1)),
 )
 
 alike_part : (f : Flaw → Flaw) (xs ys zs ws : List Flaw) (P Q : Type 0) → Alike xs ys P → Alike zs ws Q → Alike (map f xs ++ zs) (map f ys ++ ws) (P × Q)
 alike_part f xs ys zs ws P Q a b = (
-  λ e. let l = a.0 (part_empty f xs zs e) in let r = b.0 (rest_empty f xs zs e) in (both_empty (map f ys) ws (ap (map f) l.0) r.0, (l.1, r.1)),
-  λ h. both_empty (map f xs) zs (ap (map f) (a.1 (part_empty f ys ws h.0, h.1.0))) (b.1 (rest_empty f ys ws h.0, h.1.1)),
+  λ e. let l = a.0 (part_empty f xs zs e).0 in let r = b.0 (part_empty f xs zs e).1 in (both_empty (map f ys) ws (ap (map f) l.0) r.0, (l.1, r.1)),
+  λ h. both_empty (map f xs) zs (ap (map f) (a.1 ((part_empty f ys ws h.0).0, h.1.0))) (b.1 ((part_empty f ys ws h.0).1, h.1.1)),
 )
 
 alike_along : (xs ys : List Flaw) (P Q : Type 0) → (P → Q) → (Q → P) → Alike xs ys P → Alike xs ys Q
@@ -309,7 +314,7 @@ module _ (done : Members) where
         let inner = alike_joined own own (inner_flaws al (Some done) s no_members v) (inner_flaws al None s no_members v) (Unit {0}) (EachFits (λ d. Inherits d s v)) (alike_same own) (alike_inner v s no_members) in
         let all = flaws al (Some done) s false no_members v in
         let limit = alike_limit s v in (
-          λ e. let a = inner.0 (front_empty all (limit_flaws done s v) e) in let b = limit.0 (back_empty all (limit_flaws done s v) e) in (a.0, b.1, a.1.1),
+          λ e. let a = inner.0 (joined_empty all (limit_flaws done s v) e).0 in let b = limit.0 (joined_empty all (limit_flaws done s v) e).1 in (a.0, b.1, a.1.1),
           λ h. both_empty all (limit_flaws done s v) (inner.1 (h.0, (tt, h.2))) (limit.1 (refl, h.1)),
         )
 
@@ -324,39 +329,20 @@ module _ (done : Members) where
     abbrev LimitAt : Place → Data → Flaw → Type 0
     LimitAt s v f = (d : Data) × Leads s v f.path places.FieldType d × (all_named (has done) places.FieldType d ≡ true) × Exceeds f.kind (lay done places.FieldType d None)
 
-    limit_at : (v : Data) (f : Flaw) → Among f (limit_flaws done places.FieldType v) → LimitAt places.FieldType v f
-    limit_at v f h = elim (cases_Bool (all_named (has done) places.FieldType v)) [
-      | inl is ↦ (let past = past_at (lay done places.FieldType v None) (fitting (lay done places.FieldType v None)) f (judged (lay done places.FieldType v None)) (rw is at h) in
-          (v, subst (λ p. Leads places.FieldType v p places.FieldType v) (sym (ap (λ x. x.path) past.0)) (refl, refl), is, past.1))
-      | inr is ↦ absurd (rw is at h)
-    ]
+    limit_told : (d : Data) → Each (λ f. is_limit f.kind ≡ true → LimitAt places.FieldType d f) (limit_flaws done places.FieldType d)
+    limit_told d = limits_told _ done places.FieldType d (λ named kind past is. (d, (refl, refl), named, past))
 
-    own_limit : (s : Place) (taken : Bool) (v : Data) (f : Flaw) → Among f (own_flaws al s taken v) → is_limit f.kind ≡ true → ⊥
-    own_limit s taken v f h is = true≢false (sym is ∙ elim (own_is al s taken v f h) [
-      | inl (e, wrong) ↦ ap (λ g. is_limit g.kind) e
-      | inr (inl (e, unknown)) ↦ ap (λ g. is_limit g.kind) e
-      | inr (inr (e, clash)) ↦ ap (λ g. is_limit g.kind) e
-    ])
-
-    base_limit : (s : Place) (k : List ℕ) (d : Data) (f : Flaw) → Among f (base_flaws (Some done) s k d) → LimitAt (place_under s k) d f
-    base_limit s k d f h = elim (cases_Bool (is_base_name s k)) [ inl is ↦ subst (λ t. LimitAt t d f) (sym (base_place s k is)) (limit_at d f (rw is at h)) | inr is ↦ absurd (rw is at h) ]
-
-    abbrev LimitOf : Place → Data → Flaw → Type 0
-    LimitOf s v f = is_limit f.kind ≡ true → LimitAt s v f
-
-    limit_told : IsTold al (Some done) LimitOf
-    limit_told = record {
+    told : IsTold al (Some done) (λ s v f. is_limit f.kind ≡ true → LimitAt s v f)
+    told = record {
       in_object = λ s k e ms g m at is. let (d, leads, named, past) = at is in (d, (ms, e, refl, m, leads), named, past);
       in_list = λ s i e es g m at is. let (d, leads, named, past) = at is in (d, (es, e, refl, m, leads), named, past);
-      own = λ s taken v f h. inl (λ is. absurd (own_limit s taken v f h is));
+      wrong = λ s v wrong is. absurd (true≢false (sym is));
+      unknown = λ s v unknown is. absurd (true≢false (sym is));
       clash = λ s es i j n lists before first second is. absurd (true≢false (sym is));
-      bases = λ s k d f h is. base_limit s k d f h;
+      bases = bases_told (λ s v f. is_limit f.kind ≡ true → LimitAt s v f) done limit_told;
     }
 
     -- a type that is refused for a limit leads to one that passes it
     pub refused_limit : (v : Data) (f : Flaw) → refusal (type_flaws al done places.FieldType v) ≡ Err f → (f.kind ≡ Limit) ⊎ (f.kind ≡ TooDeep) → LimitAt places.FieldType v f
     refused_limit v f h named =
-        let is : is_limit f.kind ≡ true = elim named [ inl e ↦ ap is_limit e | inr e ↦ ap is_limit e ] in
-        first_or_rest f (flaws al (Some done) places.FieldType false no_members v) (limit_flaws done places.FieldType v) (refused_among (type_flaws al done places.FieldType v) f h)
-        (λ a. flaw_holds al (Some done) LimitOf limit_told places.FieldType v f a is)
-        (λ a. limit_at v f a)
+        first_told f (joined (flaws_told al (Some done) (λ s v f. is_limit f.kind ≡ true → LimitAt s v f) told places.FieldType v) (limit_told v)) h (elim named [ inl e ↦ ap is_limit e | inr e ↦ ap is_limit e ])

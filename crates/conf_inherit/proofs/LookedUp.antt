@@ -1,18 +1,19 @@
 -- Values are looked up as at most one.
 use Rattle.std.proofs.Common.{inr, inl, ◌≡◌, ℕ, List, [], ◌∷◌, Option, Some, None, true, true≢false, refl, sym, ap, ◌∙◌, subst, option_and_then, false, option_map}
 use Rattle.std.proofs.lemmas.Bool.{cases_Bool, or_parts, or_from}
+use Rattle.std.specs.List.{AllByRecursion}
 use Rattle.serde_json.specs.Data.{Data, array, object, Items, item, Members, no_members, member, string, no_items, null, boolean, number, put}
 use Rattle.serde_json.specs.{Find.{get_member, get}, Written.{has_float, items_have_float, members_have_float}}
 use Rattle.serde_json.specs.Read.{number_of, of_json, of_items, of_members, max_depth, read}
 use Rattle.conf_table.specs.declared.place.Place.{Place}
 use Rattle.conf_table.specs.declared.place.Place.TheVariants as places
-use Rattle.conf_inherit.specs.FieldPlaces.{place_under, names_alias, names_member_type, is_base_name}
+use Rattle.conf_inherit.specs.FieldPlaces.{place_under, names_alias, names_member_type, is_base_name, field_type_name}
 use Rattle.conf_inherit.specs.Looks.{Chain, nothing, alias, member_alias, heir, own, a_list, plain, Looks, looks, Shows, a_scalar, an_object, the_members, a_join, Entries, no_entry, an_entry, if_objects, if_lists, values_at, base_of}
 use Rattle.conf_inherit.specs.Names.{properties_of, items_in, entries_of, join_items, cons_some, values_in, entry_values, joined, NoClash}
 use Rattle.conf_inherit.specs.Resolution.{members_or_none, trace_name, type_name, aliases_name, aliases_of, Resolves}
-use Rattle.conf_inherit.proofs.LayingLemmas.{value_same, each_has, same_members, get_first, get_none, get_other, AllEntries, all_joined, entry_found, in_order_put, put_keeps}
+use Rattle.conf_inherit.proofs.LayingLemmas.{value_same, each_has, has_found, same_members, get_none, AllEntries, all_along, all_joined, entry_found, found_each, in_order_put, put_keeps}
 use Rattle.conf_inherit.proofs.FieldPlaceLemmas.{base_named}
-use Rattle.conf_tree.specs.{Order.{IsInOrder, Ascends, ItemsAscend, MembersAscend}, Walk.IsTreeOf}
+use Rattle.conf_tree.specs.{Order.{IsInOrder, Ascends, ItemsAscend, MembersAscend}, Walk.{HasMember, IsTreeOf}}
 use Rattle.json.specs.Json as json
 use Rattle.json.specs.Lex.{tokens}
 
@@ -85,174 +86,141 @@ module _ (al : Members) where
     one_list (an_entry {n = n} {r = r} {rs = rs} l e) (an_entry {r = t} {rs = ts} l' e') =
         ap (λ x. item (object (member n x no_members)) rs) (one_look l l') ∙ ap (item (object (member n t no_members))) (one_list e e')
 
--- ---- what holds of values and of all their parts holds of what is looked up in them: that they have no float, and that the names of each object ascend
+-- ---- where no value has a float, and the names of each object ascend, so it is of what is looked up in them
 
-abbrev pub AllOf : (Data → Type 0) → List Data → Type 0
-AllOf P [] = Unit {0}
-AllOf P (d ∷ ds) = P d × AllOf P ds
+abbrev pub IsClean : Data → Type 0
+IsClean d = Ascends d × (has_float d ≡ false)
 
-abbrev pub AllItems : (Data → Type 0) → Items → Type 0
-AllItems P no_items = Unit {0}
-AllItems P (item d ds) = P d × AllItems P ds
+abbrev AllItems : Items → Type 0
+AllItems no_items = Unit {0}
+AllItems (item d ds) = IsClean d × AllItems ds
 
-abbrev pub AllMembers : (Data → Type 0) → Members → Type 0
-AllMembers P ms = AllEntries (λ k d. P d) ms
+abbrev AllMembers : Members → Type 0
+AllMembers ms = AllEntries (λ k d. IsClean d) ms
 
--- P holds of every text, and of a list or an object in order where it holds of the parts
-pub record IsOfParts (P : Data → Type 0) : Type 0 where
-  pub a_text : (n : List ℕ) → P (string n)
-  pub to_list : (es : Items) → AllItems P es → P (array es)
-  pub of_list : (es : Items) → P (array es) → AllItems P es
-  pub to_object : (ms : Members) → IsInOrder ms → AllMembers P ms → P (object ms)
-  pub of_object : (ms : Members) → P (object ms) → AllMembers P ms
+to_list : (es : Items) → AllItems es → IsClean (array es)
+to_list no_items h = (tt, refl)
+to_list (item d es) h = let rest = to_list es h.1 in ((h.0.0, rest.0), or_from (has_float d) (items_have_float es) h.0.1 rest.1)
 
-module _ (P : Data → Type 0) (parts : IsOfParts P) where
-  of_base : (s : Place) (b : Data) (ms : Members) → AllMembers P ms → base_of s ms ≡ Some b → P b
-  of_base s b ms w h = let (k, is, there) = base_named s ms b h in each_has (λ n d. P d) ms k b w there
+of_list : (es : Items) → IsClean (array es) → AllItems es
+of_list no_items h = tt
+of_list (item d es) (order, whole) = let (one, rest) = or_parts (has_float d) (items_have_float es) whole in ((order.0, one), of_list es (order.1, rest))
 
-  of_objects : (ds : List Data) → AllOf P ds → AllOf P (if_objects ds)
-  of_objects [] w = tt
-  of_objects (object ms ∷ ds) w = w
-  of_objects (_ ∷ ds) w = tt
+of_each : (ms : Members) → AllMembers ms → MembersAscend ms × (members_have_float ms ≡ false)
+of_each no_members h = (tt, refl)
+of_each (member k d ms) h = let rest = of_each ms h.1 in ((h.0.0, rest.0), or_from (has_float d) (members_have_float ms) h.0.1 rest.1)
 
-  of_lists : (ds : List Data) → AllOf P ds → AllOf P (if_lists ds)
-  of_lists [] w = tt
-  of_lists (array es ∷ ds) w = w
-  of_lists (_ ∷ ds) w = tt
+to_object : (ms : Members) → IsInOrder ms → AllMembers ms → IsClean (object ms)
+to_object ms order h = let each = of_each ms h in ((order, each.0), each.1)
 
-  of_properties : (d : Data) → P d → AllMembers P (properties_of d)
-  of_properties (object ms) w = parts.of_object ms w
-  of_properties _ w = tt
+each_of : (ms : Members) → MembersAscend ms → members_have_float ms ≡ false → AllMembers ms
+each_of no_members order whole = tt
+each_of (member k d ms) order whole = let (one, rest) = or_parts (has_float d) (members_have_float ms) whole in ((order.0, one), each_of ms order.1 rest)
 
-  of_its_items : (d : Data) → P d → AllItems P (items_in d)
-  of_its_items (array es) w = parts.of_list es w
-  of_its_items _ w = tt
+of_object : (ms : Members) → IsClean (object ms) → AllMembers ms
+of_object ms (order, whole) = each_of ms order.1 whole
 
-  pub of_property : (k : List ℕ) (d e : Data) → P d → get k d ≡ Some e → P e
-  of_property k (object ms) e w h = entry_found (λ n x. P x) ms (parts.of_object ms w) k e h
-  of_property k _ e w h = cc
+of_base : (s : Place) (b : Data) (ms : Members) → AllMembers ms → base_of s ms ≡ Some b → IsClean b
+of_base s b ms w h = let (k, is, there) = base_named s ms b h in each_has (λ n d. IsClean d) ms k b w there
 
-  with_some : (o : Option Data) (ds : List Data) → ((d : Data) → o ≡ Some d → P d) → AllOf P ds → AllOf P (cons_some o ds)
-  with_some None ds f w = w
-  with_some (Some d) ds f w = (f d refl, w)
+of_objects : (ds : List Data) → AllByRecursion IsClean ds → AllByRecursion IsClean (if_objects ds)
+of_objects [] w = tt
+of_objects (object ms ∷ ds) w = w
+of_objects (_ ∷ ds) w = tt
 
-  of_values : (k : List ℕ) (ds : List Data) → AllOf P ds → AllOf P (values_in k ds)
-  of_values k [] w = tt
-  of_values k (d ∷ ds) w = with_some (get k d) (values_in k ds) (λ e h. of_property k d e w.0 h) (of_values k ds w.1)
+of_lists : (ds : List Data) → AllByRecursion IsClean ds → AllByRecursion IsClean (if_lists ds)
+of_lists [] w = tt
+of_lists (array es ∷ ds) w = w
+of_lists (_ ∷ ds) w = tt
 
-  of_values_at : (s : Place) (k : List ℕ) (ds : List Data) → AllOf P ds → AllOf P (values_at s k ds)
-  of_values_at s k ds w = elim (cases_Bool (is_base_name s k)) [ inl is ↦ rw is tt | inr is ↦ rw is (of_values k ds w) ]
+of_properties : (d : Data) → IsClean d → AllMembers (properties_of d)
+of_properties (object ms) w = of_object ms w
+of_properties _ w = tt
 
-  both_items : (a b : Items) → AllItems P a → AllItems P b → AllItems P (join_items a b)
-  both_items no_items b h i = i
-  both_items (item d a) b h i = (h.0, both_items a b h.1 i)
+of_its_items : (d : Data) → IsClean d → AllItems (items_in d)
+of_its_items (array es) w = of_list es w
+of_its_items _ w = tt
 
-  of_entries : (es : Items) → AllItems P es → AllMembers P (entries_of es)
-  of_entries no_items h = tt
-  of_entries (item d es) h = all_joined (λ k e. P e) (properties_of d) (entries_of es) (of_properties d h.0) (of_entries es h.1)
+of_property : (k : List ℕ) (d e : Data) → IsClean d → get k d ≡ Some e → IsClean e
+of_property k (object ms) e w h = entry_found (λ n x. IsClean x) ms (of_object ms w) k e h
+of_property k _ e w h = cc
 
-  of_entry_values : (n : List ℕ) (ds : List Data) → AllOf P ds → AllOf P (entry_values n ds)
-  of_entry_values n [] w = tt
-  of_entry_values n (d ∷ ds) w = with_some (get_member n (entries_of (items_in d))) (entry_values n ds) (λ e h. entry_found (λ k x. P x) (entries_of (items_in d)) (of_entries (items_in d) (of_its_items d w.0)) n e h) (of_entry_values n ds w.1)
+with_some : (o : Option Data) (ds : List Data) → ((d : Data) → o ≡ Some d → IsClean d) → AllByRecursion IsClean ds → AllByRecursion IsClean (cons_some o ds)
+with_some None ds f w = w
+with_some (Some d) ds f w = (f d refl, w)
 
-  of_joined : (ds : List Data) → AllOf P ds → AllItems P (joined ds)
-  of_joined [] w = tt
-  of_joined (d ∷ ds) w = both_items (joined ds) (items_in d) (of_joined ds w.1) (of_its_items d w.0)
+of_values : (k : List ℕ) (ds : List Data) → AllByRecursion IsClean ds → AllByRecursion IsClean (values_in k ds)
+of_values k [] w = tt
+of_values k (d ∷ ds) w = with_some (get k d) (values_in k ds) (λ e h. of_property k d e w.0 h) (of_values k ds w.1)
 
-  -- it holds of the values of an object in order where it holds of each that is found
-  by_names : (rs : Members) → IsInOrder rs → ((k : List ℕ) (r : Data) → get_member k rs ≡ Some r → P r) → AllMembers P rs
-  by_names no_members o f = tt
-  by_names (member k d rs) o f = (f k d (get_first k d rs), by_names rs o.1 (λ q r h. f q r (get_other q k d rs (λ e. none_there q r e h) ∙ h)))
-    where
-      none_there : (q : List ℕ) (r : Data) → q ≡ k → get_member q rs ≡ Some r → ⊥
-      none_there q r e h = let g : get_member k rs ≡ Some r = subst (λ x. get_member x rs ≡ Some r) e h in let n = get_none k rs o.0 in let bad : Some r ≡ None = sym g ∙ n in cc
+of_values_at : (s : Place) (k : List ℕ) (ds : List Data) → AllByRecursion IsClean ds → AllByRecursion IsClean (values_at s k ds)
+of_values_at s k ds w = elim (cases_Bool (is_base_name s k)) [ inl is ↦ rw is tt | inr is ↦ rw is (of_values k ds w) ]
 
-  module _ (al : Members) (known : AllMembers P al) where
-    of_chain : {s : Place} {vs cs : List Data} → Chain al s vs cs → AllOf P vs → AllOf P cs
-    of_chain nothing w = tt
-    of_chain (alias {n = n} {w = v} p q c) w = of_chain c (entry_found (λ k x. P x) al known n v q, tt)
-    of_chain (member_alias {n = n} p) w = (parts.to_object _ (tt, tt) (parts.a_text n, tt), tt)
-    of_chain (heir {s = s} {ms = ms} {b = b} {cs = cs} p c) w = (w.0, of_objects cs (of_chain c (of_base s b ms (parts.of_object ms w.0) p, tt)))
-    of_chain (own {cs = cs} p c) w = (w.0, of_objects cs (of_chain c w.1))
-    of_chain (a_list {cs = cs} c) w = (w.0, of_lists cs (of_chain c w.1))
-    of_chain (plain p) w = (w.0, tt)
+both_items : (a b : Items) → AllItems a → AllItems b → AllItems (join_items a b)
+both_items no_items b h i = i
+both_items (item d a) b h i = (h.0, both_items a b h.1 i)
 
-    mutual
-      of_looks : {s : Place} {vs : List Data} {r : Data} → Looks al s vs r → AllOf P vs → P r
-      of_looks (looks c h) w = of_shows h (of_chain c w)
+of_entries : (es : Items) → AllItems es → AllMembers (entries_of es)
+of_entries no_items h = tt
+of_entries (item d es) h = all_joined (λ k e. IsClean e) (properties_of d) (entries_of es) (of_properties d h.0) (of_entries es h.1)
 
-      of_shows : {s : Place} {cs : List Data} {r : Data} → Shows al s cs r → AllOf P cs → P r
-      of_shows (a_scalar p) w = w.0
-      of_shows {s} (an_object {ms = ms} {rs = rs} {cs = cs} o f g) w = parts.to_object rs o (by_names rs o (λ k r h. of_looks (f k r h) (of_values_at s k (object ms ∷ cs) w)))
-      of_shows (the_members {rs = rs} m e) w = parts.to_list rs (of_listed e w)
-      of_shows (a_join {es = es} {cs = cs} m) w = parts.to_list _ (of_joined (array es ∷ cs) w)
+of_entry_values : (n : List ℕ) (ds : List Data) → AllByRecursion IsClean ds → AllByRecursion IsClean (entry_values n ds)
+of_entry_values n [] w = tt
+of_entry_values n (d ∷ ds) w = with_some (get_member n (entries_of (items_in d))) (entry_values n ds) (λ e h. entry_found (λ k x. IsClean x) (entries_of (items_in d)) (of_entries (items_in d) (of_its_items d w.0)) n e h) (of_entry_values n ds w.1)
 
-      of_listed : {cs : List Data} {ns : List (List ℕ)} {rs : Items} → Entries al cs ns rs → AllOf P cs → AllItems P rs
-      of_listed no_entry w = tt
-      of_listed {cs} (an_entry {n = n} {r = r} {rs = rs} l e) w = (parts.to_object _ (tt, tt) (of_looks l (of_entry_values n cs w), tt), of_listed e w)
+of_joined : (ds : List Data) → AllByRecursion IsClean ds → AllItems (joined ds)
+of_joined [] w = tt
+of_joined (d ∷ ds) w = both_items (joined ds) (items_in d) (of_joined ds w.1) (of_its_items d w.0)
 
-  -- ---- a whole configuration
+-- names that ascend do not stand twice
+pub apart : (ms : Members) → IsInOrder ms → NoClash ms
+apart no_members h = tt
+apart (member k d ms) h = (get_none k ms h.0, apart ms h.1)
 
-  pub of_found : (k : List ℕ) (o : Option Data) → ((d : Data) → o ≡ Some d → P d) → (d : Data) → option_and_then (get k) o ≡ Some d → P d
-  of_found k None h d is = cc
-  of_found k (Some e) h d is = of_property k e d (h e refl) is
+module _ (al : Members) (known : AllMembers al) where
+  of_chain : {s : Place} {vs cs : List Data} → Chain al s vs cs → AllByRecursion IsClean vs → AllByRecursion IsClean cs
+  of_chain nothing w = tt
+  of_chain (alias {n = n} {w = v} p q c) w = of_chain c (entry_found (λ k x. IsClean x) al known n v q, tt)
+  of_chain (member_alias {n = n} p) w = (to_object (member field_type_name (string n) no_members) (tt, tt) ((tt, refl), tt), tt)
+  of_chain (heir {s = s} {ms = ms} {b = b} {cs = cs} p c) w = (w.0, of_objects cs (of_chain c (of_base s b ms (of_object ms w.0) p, tt)))
+  of_chain (own {cs = cs} p c) w = (w.0, of_objects cs (of_chain c w.1))
+  of_chain (a_list {cs = cs} c) w = (w.0, of_lists cs (of_chain c w.1))
+  of_chain (plain p) w = (w.0, tt)
 
-  of_its_members : (o : Option Data) → ((d : Data) → o ≡ Some d → P d) → AllMembers P (members_or_none o)
-  of_its_members (Some (object ms)) h = parts.of_object ms (h (object ms) refl)
-  of_its_members _ h = tt
+  mutual
+    of_looks : {s : Place} {vs : List Data} {r : Data} → Looks al s vs r → AllByRecursion IsClean vs → IsClean r
+    of_looks (looks c h) w = of_shows h (of_chain c w)
 
-  of_resolved : (t r : Data) → P t → Resolves t r → P r
-  of_resolved t r h l =
-      let aliases = of_its_members _ (of_found aliases_name _ (of_found type_name (get trace_name t) (λ d is. of_property trace_name t d h is))) in
-      of_looks (aliases_of t) aliases l (h, tt)
+    of_shows : {s : Place} {cs : List Data} {r : Data} → Shows al s cs r → AllByRecursion IsClean cs → IsClean r
+    of_shows (a_scalar p) w = w.0
+    of_shows {s} (an_object {ms = ms} {rs = rs} {cs = cs} o f g) w = to_object rs o (all_along (λ k r. get_member k rs ≡ Some r) (λ k r. IsClean r) (λ k r h. of_looks (f k r h) (of_values_at s k (object ms ∷ cs) w)) rs (found_each rs (apart rs o)))
+    of_shows (the_members {rs = rs} m e) w = to_list rs (of_listed e w)
+    of_shows (a_join {es = es} {cs = cs} m) w = to_list _ (of_joined (array es ∷ cs) w)
 
--- ---- names in order
+    of_listed : {cs : List Data} {ns : List (List ℕ)} {rs : Items} → Entries al cs ns rs → AllByRecursion IsClean cs → AllItems rs
+    of_listed no_entry w = tt
+    of_listed {cs} (an_entry {n = n} {r = r} {rs = rs} l e) w = (to_object (member n r no_members) (tt, tt) (of_looks l (of_entry_values n cs w), tt), of_listed e w)
 
-items_ascend : (es : Items) → AllItems Ascends es → ItemsAscend es
-items_ascend no_items h = tt
-items_ascend (item d es) h = (h.0, items_ascend es h.1)
+-- ---- a whole configuration
 
-ascending_items : (es : Items) → ItemsAscend es → AllItems Ascends es
-ascending_items no_items h = tt
-ascending_items (item d es) h = (h.0, ascending_items es h.1)
+pub both_there : {A B : Type 0} (next_step : A → Option B) (o : Option A) (y : B) → option_and_then next_step o ≡ Some y → (x : A) × (o ≡ Some x) × (next_step x ≡ Some y)
+both_there next_step None y e = absurd cc
+both_there next_step (Some x) y e = (x, refl, e)
 
-members_ascend : (ms : Members) → AllMembers Ascends ms → MembersAscend ms
-members_ascend no_members h = tt
-members_ascend (member k d ms) h = (h.0, members_ascend ms h.1)
+-- what holds of each property of a value it holds of, holds of the aliases of a configuration that it holds of
+of_aliases : (P : Data → Type 0) → ((k : List ℕ) (d e : Data) → P d → get k d ≡ Some e → P e) → (t : Data) → P t
+    → (d : Data) → option_and_then (get aliases_name) (option_and_then (get type_name) (get trace_name t)) ≡ Some d → P d
+of_aliases P within t h d is =
+    let (type, in_trace, found) = both_there (get aliases_name) (option_and_then (get type_name) (get trace_name t)) d is in
+    let (trace, in_root, in_type) = both_there (get type_name) (get trace_name t) type in_trace in
+    within aliases_name type d (within type_name trace type (within trace_name t trace h in_root) in_type) found
 
-pub ascending_members : (ms : Members) → MembersAscend ms → AllMembers Ascends ms
-ascending_members no_members h = tt
-ascending_members (member k d ms) h = (h.0, ascending_members ms h.1)
+of_its_members : (o : Option Data) → ((d : Data) → o ≡ Some d → IsClean d) → AllMembers (members_or_none o)
+of_its_members (Some (object ms)) h = of_object ms (h (object ms) refl)
+of_its_members _ h = tt
 
-pub ascending : IsOfParts Ascends
-ascending = record { a_text = λ n. tt; to_list = items_ascend; of_list = ascending_items; to_object = λ ms o h. (o, members_ascend ms h); of_object = λ ms h. ascending_members ms h.1 }
-
-pub resolved_ascends : (t r : Data) → Ascends t → Resolves t r → Ascends r
-resolved_ascends t r h l = of_resolved Ascends ascending t r h l
-
--- ---- no float
-
-abbrev IsWhole : Data → Type 0
-IsWhole d = has_float d ≡ false
-
-items_whole : (es : Items) → AllItems IsWhole es → items_have_float es ≡ false
-items_whole no_items h = refl
-items_whole (item d es) h = or_from (has_float d) (items_have_float es) h.0 (items_whole es h.1)
-
-whole_items : (es : Items) → items_have_float es ≡ false → AllItems IsWhole es
-whole_items no_items h = tt
-whole_items (item d es) h = ((or_parts (has_float d) (items_have_float es) h).0, whole_items es ((or_parts (has_float d) (items_have_float es) h).1))
-
-members_whole : (ms : Members) → AllMembers IsWhole ms → members_have_float ms ≡ false
-members_whole no_members h = refl
-members_whole (member k d ms) h = or_from (has_float d) (members_have_float ms) h.0 (members_whole ms h.1)
-
-whole_members : (ms : Members) → members_have_float ms ≡ false → AllMembers IsWhole ms
-whole_members no_members h = tt
-whole_members (member k d ms) h = ((or_parts (has_float d) (members_have_float ms) h).0, whole_members ms ((or_parts (has_float d) (members_have_float ms) h).1))
-
-pub resolved_whole : (t r : Data) → has_float t ≡ false → Resolves t r → has_float r ≡ false
-resolved_whole t r h l = of_resolved IsWhole (record { a_text = λ n. refl; to_list = items_whole; of_list = whole_items; to_object = λ ms o h. members_whole ms h; of_object = whole_members }) t r h l
+pub resolved_clean : (t r : Data) → IsClean t → Resolves t r → IsClean r
+resolved_clean t r h l = of_looks (aliases_of t) (of_its_members _ (of_aliases IsClean of_property t h)) l (h, tt)
 
 -- In the value of a text the names of each object ascend, so no name stands twice in one of its objects.
 
@@ -261,10 +229,6 @@ resolved_whole t r h l = of_resolved IsWhole (record { a_text = λ n. refl; to_l
 mapped : {A B : Type 0} (f : A → B) (o : Option A) (y : B) → option_map f o ≡ Some y → (x : A) × (o ≡ Some x) × (f x ≡ y)
 mapped f None y e = absurd cc
 mapped f (Some x) y e = (x, refl, cc)
-
-pub both_there : {A B : Type 0} (next_step : A → Option B) (o : Option A) (y : B) → option_and_then next_step o ≡ Some y → (x : A) × (o ≡ Some x) × (next_step x ≡ Some y)
-both_there next_step None y e = absurd cc
-both_there next_step (Some x) y e = (x, refl, e)
 
 each_put : (k : List ℕ) (d : Data) (ms : Members) → Ascends d → MembersAscend ms → MembersAscend (put k d ms)
 each_put k d no_members mine h = (mine, tt)
@@ -297,18 +261,18 @@ read_in_order text t e = let j = both_there of_json (option_and_then (λ p. json
 
 -- ---- so no alias has the name of another
 
--- names that ascend do not stand twice
-pub apart : (ms : Members) → IsInOrder ms → NoClash ms
-apart no_members h = tt
-apart (member k d ms) h = (get_none k ms h.0, apart ms h.1)
+pub member_in_order : (ms : Members) (k : List ℕ) (d : Data) → MembersAscend ms → HasMember k d ms → Ascends d
+member_in_order no_members k d h there = absurd there
+member_in_order (member l e ms) k d h (inl one) = subst Ascends (sym one.1) h.0
+member_in_order (member l e ms) k d h (inr later) = member_in_order ms k d h.1 later
+
+property_in_order : (k : List ℕ) (d e : Data) → Ascends d → get k d ≡ Some e → Ascends e
+property_in_order k (object ms) e h is = member_in_order ms k e h.1 (has_found k e ms is)
+property_in_order k _ e h is = cc
 
 members_apart : (o : Option Data) → ((d : Data) → o ≡ Some d → Ascends d) → NoClash (members_or_none o)
-members_apart None h = tt
 members_apart (Some (object ms)) h = apart ms (h (object ms) refl).0
-members_apart (Some _) h = tt
+members_apart _ h = tt
 
 pub aliases_apart : (text : List ℕ) (t : Data) → IsTreeOf text t → NoClash (aliases_of t)
-aliases_apart text t tree =
-    let type = option_and_then (get type_name) (get trace_name t) in
-    members_apart (option_and_then (get aliases_name) type)
-    (of_found Ascends ascending aliases_name type (of_found Ascends ascending type_name (get trace_name t) (λ d is. of_property Ascends ascending trace_name t d (read_in_order text t tree.0.1) is)))
+aliases_apart text t tree = members_apart _ (of_aliases Ascends property_in_order t (read_in_order text t tree.0.1))

@@ -1,22 +1,21 @@
 -- Where a field type fits, and each value of a `$inherit` in it by itself, each field type in it fits by itself.
-use Rattle.std.proofs.Common.{◌≡◌, ◌&&◌, ◌⊎◌, inl, inr, ℕ, zero, suc, Bool, true, false, true≢false, List, [], ◌∷◌, Some, None, is_some, refl, sym, subst, ◌++◌, ap, ◌∙◌}
+use Rattle.std.proofs.Common.{◌≡◌, ◌&&◌, ◌⊎◌, inl, inr, ℕ, zero, suc, Bool, true, false, true≢false, List, [], ◌∷◌, Some, None, is_some, refl, sym, subst, ap, ◌∙◌}
 use Rattle.std.proofs.lemmas.Bool.{cases_Bool}
 use Rattle.serde_json.specs.{Data.{Data, array, object, Items, no_items, item, Members, no_members, member}, Find.{get_item, get_member}}
 use Rattle.conf_tree.specs.{Flaw.{Place as Step, key, index, within}, Order.{Ascends, ItemsAscend}, Walk.HasMember}
 use Rattle.conf_table.specs.{declared.place.Place.Place, Table.{rows_of, entries_of, content_under, place_in}}
-use Rattle.conf_table.specs.declared.place.Place.TheVariants as places
 use Rattle.conf_inherit.specs.FieldPlaces.{field_place, place_under, place_of_items, names_alias, names_member_type, is_base_name, lists_members, is_entry, leads_on}
-use Rattle.conf_inherit.specs.{Faults.Leads, Flaws.{is_wrong, is_no_entry, own_flaws, inner_flaws, flaws, type_flaws, mark}}
-use Rattle.conf_inherit.specs.Laying.{lay, lay_base, lay_members, lay_new, lay_new_entry, lay_new_member, has_entry, members_below}
-use Rattle.conf_inherit.specs.{Limits.{Fits, Inherits, InheritsInItems, InheritsInMembers, limit_flaws}, Looks.AreResolved, Named.{all_named, has}}
-use Rattle.conf_inherit.specs.{Ready.{Names, IsReady}, Places.{inner_places, item_places, place_flaws}}
+use Rattle.conf_inherit.specs.{Faults.{Leads, ListsTooMany}, Limits.{Fits, Inherits, InheritsInItems, InheritsInMembers, limit_flaws}, Ready.{Names, IsReady}}
+use Rattle.conf_inherit.specs.{Flaws.{is_wrong, is_no_entry, own_flaws, inner_flaws, flaws, type_flaws, mark}, Places.{inner_places, item_places, place_flaws}}
+use Rattle.conf_inherit.specs.{Laying.{lay, lay_base, lay_members, lay_new, lay_new_entry, lay_new_member, has_entry, members_below}, Named.{all_named, has}}
+use Rattle.conf_inherit.specs.Looks.{AreResolved}
 use Rattle.conf_inherit.proofs.{LaysOver.{laid_entry, property_stands, ground_base, grows}, LayingLemmas.{each_has, lay_members-found, found_each, value_same}}
-use Rattle.conf_inherit.proofs.FaultLemmas.{named, own_sound, ready, single_entry, front_empty, back_empty, part_empty, rest_empty}
+use Rattle.conf_inherit.proofs.FaultLemmas.{named, own_sound, ready, single_entry, part_empty, joined_empty}
 use Rattle.conf_inherit.proofs.SizeLemmas.{NoLargerItems, as_large, as_large_items, items_through, next_value, further_value, none_more, fits_below, property_fits, item_fits}
-use Rattle.conf_inherit.proofs.LookedUp.{apart, ascending_members}
-use Rattle.conf_inherit.proofs.SoundPlaces.{PartSound, member_sound, item_sound, PlaceSound, member_place, object_places, list_places, extras_there, root_place, place_of_type, place_of_member, IsOutside, under_outside, on_or_ignored, extras_or_ignored}
+use Rattle.conf_inherit.proofs.{LookedUp.{apart, member_in_order}, LimitLemmas.{sound_type, alike_inner, alike_limit}}
+use Rattle.conf_inherit.proofs.SoundPlaces.{PartSound, member_sound, item_sound, PlaceSound, member_place, object_places, list_places, extras_there, root_place, place_of_type, place_of_member, IsOutside, under_outside, on_or_ignored, extras_or_ignored, LeadsElsewhere, under_elsewhere, items_elsewhere, no_extras, extras_fine}
 use Rattle.conf_inherit.proofs.FieldPlaceLemmas.{list_place, base_place, ignored_under, alias_place, member_value_place, entry_place}
-use Rattle.conf_inherit.proofs.LimitLemmas.{sound_type, alike_inner, alike_limit}
+use Rattle.conf_table.specs.declared.place.Place.TheVariants as places
 
 -- ---- where a path leads to no field type
 
@@ -37,11 +36,16 @@ unfolding names_alias names_member_type
 nothing_named (inl h) = true≢false (sym h)
 nothing_named (inr h) = true≢false (sym h)
 
--- from a value that is ignored no way leads to a field type
-pub ignored_leads_nowhere : (s : Place) (path : List Step) (v : Data) (t : Place) (w : Data) → s ≡ places.Ignored → Leads s v path t w → ¬ Names t
-ignored_leads_nowhere s path v t w ignored leads names = nothing_named (subst Names (led_on path v t w (subst (λ x. Leads x v path t w) ignored leads)) names)
+-- a field type fits by itself, and there are not too many extra members
+abbrev pub IsFine : Members → Place → Data → Type 0
+IsFine done t w = (Names t → Fits (lay done t w None)) × ¬ ListsTooMany t w
 
-pub item_in_order : (es : Items) (i : ℕ) (d : Data) → ItemsAscend es → get_item i es ≡ Some d → Ascends d
+-- from a value that is ignored no way leads to either
+ignored_fine : (done : Members) (s : Place) (path : List Step) (v : Data) (t : Place) (w : Data) → s ≡ places.Ignored → Leads s v path t w → IsFine done t w
+ignored_fine done s path v t w ignored leads =
+    subst (λ x. IsFine done x w) (sym (led_on path v t w (subst (λ x. Leads x v path t w) ignored leads))) ((λ names. absurd (nothing_named names)), no_extras places.Ignored w refl)
+
+item_in_order : (es : Items) (i : ℕ) (d : Data) → ItemsAscend es → get_item i es ≡ Some d → Ascends d
 item_in_order no_items i d each there = absurd cc
 item_in_order (item e es) zero d each there = subst Ascends (value_same e d there) each.0
 item_in_order (item e es) (suc i) d each there = item_in_order es i d each.1 there
@@ -106,6 +110,7 @@ module _ (al done : Members) (known : AreResolved al done) (all : (n : List ℕ)
   pub record IsFit (s : Place) (v : Data) : Type 0 where
     pub taken : Bool
     pub seen : Members
+    pub elsewhere : LeadsElsewhere s
     pub sound : PartSound al s taken seen v
     pub in_order : Ascends v
     pub inherited : (d : Data) → Inherits d s v → all_named (has done) places.FieldType d ≡ true → Fits (lay done places.FieldType d None)
@@ -138,8 +143,9 @@ module _ (al done : Members) (known : AreResolved al done) (all : (n : List ℕ)
   fit_under s ms k d h there = record {
     taken = is_entry s && is_some (get_member k h.seen);
     seen = no_members;
+    elsewhere = under_elsewhere s k h.elsewhere;
     sound = member_sound al s h.seen ms k d h.sound.inner there;
-    in_order = each_has (λ n e. Ascends e) ms k d (ascending_members ms h.in_order.1) there;
+    in_order = member_in_order ms k d h.in_order.1 there;
     inherited = λ x is. h.inherited x (inherits_under x s ms k d there is);
     whole = property_fit s ms k d h there;
   }
@@ -152,6 +158,7 @@ module _ (al done : Members) (known : AreResolved al done) (all : (n : List ℕ)
       record {
         taken = false;
         seen = one.marks;
+        elsewhere = items_elsewhere s;
         sound = one.sound;
         in_order = item_in_order es i e h.in_order there;
         inherited = λ x within. h.inherited x (inherits_in_item x (place_of_items s) es i e there within);
@@ -159,12 +166,12 @@ module _ (al done : Members) (known : AreResolved al done) (all : (n : List ℕ)
       }
 
   -- each field type that a path leads to fits
-  pub fits_along : (path : List Step) (s : Place) (v : Data) (t : Place) (w : Data) → IsFit s v → Leads s v path t w → Names t → Fits (lay done t w None)
-  fits_along [] s v t w h (place, value) names = subst (λ x. Fits (lay done x w None)) place (subst (λ x. Fits (lay done s x None)) value h.whole)
-  fits_along (key k ∷ path) s v t w h (ms, d, is, there, leads) names = fits_along path (place_under s k) d t w (fit_under s ms k d (subst (IsFit s) is h) there) leads names
-  fits_along (index i ∷ path) s v t w h (es, d, is, there, leads) names = elim (lists_or_ignored s) [
-    | inl lists ↦ fits_along path (place_of_items s) d t w (fit_entry s es i d lists (subst (IsFit s) is h) there) leads names
-    | inr ignored ↦ absurd (ignored_leads_nowhere (place_of_items s) path d t w ignored leads names)
+  pub fits_along : (path : List Step) (s : Place) (v : Data) (t : Place) (w : Data) → IsFit s v → Leads s v path t w → IsFine done t w
+  fits_along [] s v t w h (place, value) = subst (λ x. IsFine done x w) place (subst (IsFine done s) value ((λ names. h.whole), no_extras s v h.elsewhere))
+  fits_along (key k ∷ path) s v t w h (ms, d, is, there, leads) = fits_along path (place_under s k) d t w (fit_under s ms k d (subst (IsFit s) is h) there) leads
+  fits_along (index i ∷ path) s v t w h (es, d, is, there, leads) = elim (lists_or_ignored s) [
+    | inl lists ↦ fits_along path (place_of_items s) d t w (fit_entry s es i d lists (subst (IsFit s) is h) there) leads
+    | inr ignored ↦ ignored_fine done (place_of_items s) path d t w ignored leads
   ]
 
 -- Where nothing is wrong at the places of a configuration, each field type in it fits by itself.
@@ -190,7 +197,7 @@ module _ (al done : Members) (known : AreResolved al done) (all : (n : List ℕ)
   type_fit : (v : Data) (taken : Bool) (seen : Members) → PartSound al places.FieldType taken seen v → Ascends v → type_flaws al done places.FieldType v ≡ [] → IsFit al done known all places.FieldType v
   type_fit v taken seen part ordered none =
       let sound = (sound_type done al places.FieldType v).0 none in
-      record { taken = taken; seen = seen; sound = part; in_order = ordered; inherited = sound.2; whole = sound.1 (sound_named al done known all places.FieldType v taken seen part) }
+      record { taken = taken; seen = seen; elsewhere = refl; sound = part; in_order = ordered; inherited = sound.2; whole = sound.1 (sound_named al done known all places.FieldType v taken seen part) }
 
   -- ---- the extra members of a packet context
 
@@ -201,23 +208,15 @@ module _ (al done : Members) (known : AreResolved al done) (all : (n : List ℕ)
     places : inner_places al done places.Entry e ≡ []
 
   item_place : (i : ℕ) (seen : Members) (es : Items) (j : ℕ) (e : Data) → item_places al done places.ExtraMembers i seen es ≡ [] → get_item j es ≡ Some e → ExtraSound e
+  unfolding place_of_items
   item_place i seen no_items j e none there = absurd cc
   item_place i seen (item x es) zero e none there =
-      let s = place_of_items places.ExtraMembers in
-      let fs = flaws al (Some done) s false seen x in
-      let mine = part_empty (within (index i)) (fs ++ inner_places al done s x) (item_places al done places.ExtraMembers (suc i) (mark x seen) es) none in
-      let same = value_same x e there in
-      record {
-        marks = seen;
-        flawless = subst (λ y. flaws al (Some done) places.Entry false seen y ≡ []) same (subst (λ t. flaws al (Some done) t false seen x ≡ []) extra_items (front_empty fs (inner_places al done s x) mine));
-        places = subst (λ y. inner_places al done places.Entry y ≡ []) same (subst (λ t. inner_places al done t x ≡ []) extra_items (back_empty fs (inner_places al done s x) mine));
-      }
-  item_place i seen (item x es) (suc j) e none there =
-      let s = place_of_items places.ExtraMembers in
-      item_place (suc i) (mark x seen) es j e (rest_empty (within (index i)) (flaws al (Some done) s false seen x ++ inner_places al done s x) (item_places al done places.ExtraMembers (suc i) (mark x seen) es) none) there
+      let (flawless, places) = joined_empty _ _ (part_empty (within (index i)) _ _ none).0 in
+      subst ExtraSound (value_same x e there) (record { marks = seen; flawless = flawless; places = places })
+  item_place i seen (item x es) (suc j) e none there = item_place (suc i) (mark x seen) es j e (part_empty (within (index i)) _ _ none).1 there
 
   extra_inherits : (e : Data) → ExtraSound e → (d : Data) → Inherits d places.Entry e → all_named (has done) places.FieldType d ≡ true → Fits (lay done places.FieldType d None)
-  extra_inherits e h = ((alike_inner done al e places.Entry h.marks).0 (back_empty (own_flaws al places.Entry false e) (inner_flaws al (Some done) places.Entry h.marks e) h.flawless)).1
+  extra_inherits e h = ((alike_inner done al e places.Entry h.marks).0 (joined_empty (own_flaws al places.Entry false e) (inner_flaws al (Some done) places.Entry h.marks e) h.flawless).1).1
 
   member_fit : (ms : Members) (k : List ℕ) (d : Data) (marks : Members) → PartSound al places.Entry false marks (object ms) → Ascends (object ms) → ExtraSound (object ms) → HasMember k d ms → IsFit al done known all (place_under places.Entry k) d
   unfolding leads_on names_alias names_member_type
@@ -230,18 +229,19 @@ module _ (al done : Members) (known : AreResolved al done) (all : (n : List ℕ)
       record {
         taken = _;
         seen = no_members;
+        elsewhere = under_elsewhere places.Entry k refl;
         sound = mine;
-        in_order = each_has (λ n e. Ascends e) ms k d (ascending_members ms ordered.1) there;
+        in_order = member_in_order ms k d ordered.1 there;
         inherited = λ x within. extra_inherits (object ms) h x (inherits_under x places.Entry ms k d there within);
         whole = subst (λ t. Fits (lay done t d None)) (sym (entry_place k)) (whole (subst (λ t. all_named (has done) t d ≡ true) (entry_place k) (sound_named al done known all (place_under places.Entry k) d _ no_members mine)));
       }
 
-  extra_along : (path : List Step) (e : Data) (t : Place) (w : Data) (marks : Members) → PartSound al places.Entry false marks e → Ascends e → ExtraSound e → Leads places.Entry e path t w → Names t → Fits (lay done t w None)
+  extra_along : (path : List Step) (e : Data) (t : Place) (w : Data) (marks : Members) → PartSound al places.Entry false marks e → Ascends e → ExtraSound e → Leads places.Entry e path t w → IsFine done t w
   unfolding place_of_items
-  extra_along [] e t w marks part ordered h (place, value) names = absurd (entry_unnamed (subst Names (sym place) names))
-  extra_along (index i ∷ path) e t w marks part ordered h (es, d, is, there, leads) names = absurd (ignored_leads_nowhere (place_of_items places.Entry) path d t w refl leads names)
-  extra_along (key k ∷ path) e t w marks part ordered h (ms, d, is, there, leads) names =
-      fits_along al done known all path (place_under places.Entry k) d t w (member_fit ms k d marks (subst (PartSound al places.Entry false marks) is part) (subst Ascends is ordered) (subst ExtraSound is h) there) leads names
+  extra_along [] e t w marks part ordered h (place, value) = subst (λ x. IsFine done x w) place ((λ names. absurd (entry_unnamed names)), no_extras places.Entry w refl)
+  extra_along (index i ∷ path) e t w marks part ordered h (es, d, is, there, leads) = ignored_fine done (place_of_items places.Entry) path d t w refl leads
+  extra_along (key k ∷ path) e t w marks part ordered h (ms, d, is, there, leads) =
+      fits_along al done known all path (place_under places.Entry k) d t w (member_fit ms k d marks (subst (PartSound al places.Entry false marks) is part) (subst Ascends is ordered) (subst ExtraSound is h) there) leads
 
   -- nothing is wrong with a value, nor at the places in it
   record SoundPlace (s : Place) (v : Data) : Type 0 where
@@ -251,49 +251,49 @@ module _ (al done : Members) (known : AreResolved al done) (all : (n : List ℕ)
     in_order : Ascends v
     places : PlaceSound al done s v
 
-  type_along : (path : List Step) (s : Place) (v : Data) (t : Place) (w : Data) → SoundPlace s v → names_alias s ≡ true → Leads s v path t w → Names t → Fits (lay done t w None)
-  type_along path s v t w h is leads names =
+  type_along : (path : List Step) (s : Place) (v : Data) (t : Place) (w : Data) → SoundPlace s v → names_alias s ≡ true → Leads s v path t w → IsFine done t w
+  type_along path s v t w h is leads =
       let place = alias_place s is in
       let none = sym (place_of_type al done s v is) ∙ h.places.own in
       fits_along al done known all path places.FieldType v t w
       (type_fit v h.taken h.seen (subst (λ x. PartSound al x h.taken h.seen v) place h.sound) h.in_order (subst (λ x. type_flaws al done x v ≡ []) place none))
-      (subst (λ x. Leads x v path t w) place leads) names
+      (subst (λ x. Leads x v path t w) place leads)
 
   sound_under : (s : Place) (ms : Members) (k : List ℕ) (d : Data) → SoundPlace s (object ms) → leads_on s ≡ true → HasMember k d ms → SoundPlace (place_under s k) d
   sound_under s ms k d h on there = record {
     taken = _;
     seen = no_members;
     sound = member_sound al s h.seen ms k d h.sound.inner there;
-    in_order = each_has (λ n e. Ascends e) ms k d (ascending_members ms h.in_order.1) there;
+    in_order = member_in_order ms k d h.in_order.1 there;
     places = member_place al done s ms k d (object_places al done s ms on h.places.inner) there;
   }
 
-  extras_along : (path : List Step) (i : ℕ) (es : Items) (d : Data) (t : Place) (w : Data) → SoundPlace places.ExtraMembers (array es) → get_item i es ≡ Some d → Leads places.Entry d path t w → Names t → Fits (lay done t w None)
-  extras_along path i es d t w h there leads names =
+  extras_along : (path : List Step) (i : ℕ) (es : Items) (d : Data) (t : Place) (w : Data) → SoundPlace places.ExtraMembers (array es) → get_item i es ≡ Some d → Leads places.Entry d path t w → IsFine done t w
+  extras_along path i es d t w h there leads =
       let one = item_sound al places.ExtraMembers 0 no_members es i d h.sound.inner there in
-      extra_along path d t w one.marks (subst (λ s. PartSound al s false one.marks d) extra_items one.sound) (item_in_order es i d h.in_order there) (item_place 0 no_members es i d (list_places al done es h.places.inner) there) leads names
+      extra_along path d t w one.marks (subst (λ s. PartSound al s false one.marks d) extra_items one.sound) (item_in_order es i d h.in_order there) (item_place 0 no_members es i d (list_places al done es h.places.inner) there) leads
 
   -- each field type that a path leads to fits
-  place_along : (path : List Step) (s : Place) (v : Data) (t : Place) (w : Data) → IsOutside s → SoundPlace s v → Leads s v path t w → Names t → Fits (lay done t w None)
-  place_along [] s v t w out h leads names = elim (cases_Bool (names_alias s)) [
-    | inl is ↦ type_along [] s v t w h is leads names
-    | inr no_type ↦ absurd (unnamed_outside s out no_type (subst Names (sym leads.0) names))
+  place_along : (path : List Step) (s : Place) (v : Data) (t : Place) (w : Data) → IsOutside s → SoundPlace s v → Leads s v path t w → IsFine done t w
+  place_along [] s v t w out h (place, value) = elim (cases_Bool (names_alias s)) [
+    | inl is ↦ type_along [] s v t w h is (place, value)
+    | inr no_type ↦ subst (λ x. IsFine done x w) place (subst (IsFine done s) value ((λ names. absurd (unnamed_outside s out no_type names)), extras_fine al done s v h.places.own))
   ]
-  place_along (key k ∷ path) s v t w out h (ms, d, is, there, leads) names = elim (cases_Bool (names_alias s)) [
-    | inl named ↦ type_along (key k ∷ path) s v t w h named (ms, d, is, there, leads) names
+  place_along (key k ∷ path) s v t w out h (ms, d, is, there, leads) = elim (cases_Bool (names_alias s)) [
+    | inl named ↦ type_along (key k ∷ path) s v t w h named (ms, d, is, there, leads)
     | inr no_type ↦ elim (on_or_ignored s k out no_type) [
-      | inl on ↦ place_along path (place_under s k) d t w (under_outside s k out on) (sound_under s ms k d (subst (SoundPlace s) is h) on there) leads names
-      | inr ignored ↦ absurd (ignored_leads_nowhere (place_under s k) path d t w ignored leads names)
+      | inl on ↦ place_along path (place_under s k) d t w (under_outside s k out on) (sound_under s ms k d (subst (SoundPlace s) is h) on there) leads
+      | inr ignored ↦ ignored_fine done (place_under s k) path d t w ignored leads
     ]
   ]
-  place_along (index i ∷ path) s v t w out h (es, d, is, there, leads) names = elim (extras_or_ignored s out) [
+  place_along (index i ∷ path) s v t w out h (es, d, is, there, leads) = elim (extras_or_ignored s out) [
     | inl extras ↦ (let place = extras_there s extras in
-        extras_along path i es d t w (subst (λ x. SoundPlace x (array es)) place (subst (SoundPlace s) is h)) there (subst (λ x. Leads x d path t w) (ap place_of_items place ∙ extra_items) leads) names)
-    | inr ignored ↦ absurd (ignored_leads_nowhere (place_of_items s) path d t w ignored leads names)
+        extras_along path i es d t w (subst (λ x. SoundPlace x (array es)) place (subst (SoundPlace s) is h)) there (subst (λ x. Leads x d path t w) (ap place_of_items place ∙ extra_items) leads))
+    | inr ignored ↦ ignored_fine done (place_of_items s) path d t w ignored leads
   ]
 
   -- nothing is wrong with a configuration as a whole, nor at its places
-  pub all_fit : (v : Data) (path : List Step) (t : Place) (w : Data) → PartSound al places.Root false no_members v → Ascends v → inner_places al done places.Root v ≡ [] → Leads places.Root v path t w → Names t → Fits (lay done t w None)
+  pub all_fine : (v : Data) (path : List Step) (t : Place) (w : Data) → PartSound al places.Root false no_members v → Ascends v → inner_places al done places.Root v ≡ [] → Leads places.Root v path t w → IsFine done t w
   unfolding leads_on
-  all_fit v path t w part ordered none leads names =
-      place_along path places.Root v t w refl (record { taken = false; seen = no_members; sound = part; in_order = ordered; places = root_place al done v none }) leads names
+  all_fine v path t w part ordered none leads =
+      place_along path places.Root v t w refl (record { taken = false; seen = no_members; sound = part; in_order = ordered; places = root_place al done v none }) leads

@@ -5,9 +5,9 @@ use Rattle.serde_json.specs.Data.{Data, string, array, object, Members, no_membe
 use Rattle.conf_tree.specs.{Flaw.{key, within}, Reading.◌>>=◌, Walk.refusal}
 use Rattle.conf_table.specs.declared.place.Place.{Place}
 use Rattle.conf_table.specs.declared.place.Place.TheVariants as places
-use Rattle.conf_inherit.specs.{FieldPlaces.{place_under, names_alias, names_member_type, lists_members}, Laying.{lay, lay_members, lay_text}}
+use Rattle.conf_inherit.specs.{FieldPlaces.{place_under, names_alias, names_member_type, lists_members, leads_on}, Laying.{lay, lay_members, lay_text}}
 use Rattle.conf_inherit.specs.{Nesting.{members_nest, deep_flaws, deep_member_flaws}, Resolution.{trace_name, type_name, aliases_name, if_shallow}}
-use Rattle.conf_inherit.specs.Whole.{holds_aliases, with_property, in_property, in_object, with_aliases, AreLaid}
+use Rattle.conf_inherit.specs.Whole.{with_property, in_property, in_object, with_aliases, AreLaid}
 use Rattle.conf_inherit.proofs.{LayingLemmas.{equal_names, differs, lay_members-first, apart_greater, stands}, SizeLemmas.nests_shallow}
 use Rattle.conf_inherit.proofs.TakenLemmas.{on_way, no_base, laid_object}
 
@@ -36,19 +36,19 @@ put_beside n k g x (member l e ms) away = elim (cases_Bool (bytes_eq l n)) [
 
 -- ---- what is laid
 
-text_stays : (done : Members) (s : Place) (n : List ℕ) → holds_aliases s ≡ true → lay_text done s n ≡ string n
-unfolding holds_aliases names_alias names_member_type
+text_stays : (done : Members) (s : Place) (n : List ℕ) → leads_on s ≡ true → lay_text done s n ≡ string n
+unfolding leads_on names_alias names_member_type
 text_stays done places.FieldType n h = absurd (true≢false (sym h))
 text_stays done places.Member n h = absurd (true≢false (sym h))
 text_stays done _ n h = refl
 
-no_list : (s : Place) → holds_aliases s ≡ true → lists_members s ≡ false
-unfolding holds_aliases lists_members
+no_list : (s : Place) → leads_on s ≡ true → lists_members s ≡ false
+unfolding leads_on lists_members
 no_list places.Members h = absurd (true≢false (sym h))
 no_list places.ExtraMembers h = absurd (true≢false (sym h))
 no_list _ h = refl
 
-module _ (done : Members) (s : Place) (above : holds_aliases s ≡ true) where
+module _ (done : Members) (s : Place) (above : leads_on s ≡ true) where
   module _ (n : List ℕ) (f g : Data → Data) (each : (d : Data) → lay done (place_under s n) (f d) None ≡ g (lay done (place_under s n) d None)) where
     members_with : (ms : Members) → lay_members done s (with_property n f ms) no_members ≡ with_property n g (lay_members done s ms no_members)
     members_with no_members = refl
@@ -75,17 +75,17 @@ module _ (done : Members) (s : Place) (above : holds_aliases s ≡ true) where
   object_with al _ = refl
 
 -- a configuration with other aliases is laid to what it is laid to, with those laid
-whole_with : (done al : Members) (v : Data) → lay done places.Root (with_aliases places.Root al v) None ≡ with_aliases places.Root (lay_members done places.FieldTypeAliases al no_members) (lay done places.Root v None)
-unfolding holds_aliases
+whole_with : (done al : Members) (v : Data) → lay done places.Root (with_aliases al v) None ≡ with_aliases (lay_members done places.FieldTypeAliases al no_members) (lay done places.Root v None)
+unfolding leads_on
 whole_with done al v = on_way (λ s f g. (d : Data) → lay done s (f d) None ≡ g (lay done s d None)) al (lay_members done places.FieldTypeAliases al no_members)
     (object_with done places.FieldTypeAliases refl al) (λ s n f g above each. value_with done s above n f g each) v
 
 -- the resolved ones in their place
-pub laid_with : (done al : Members) (v : Data) → AreLaid done al → lay done places.Root (with_aliases places.Root al v) None ≡ with_aliases places.Root done (lay done places.Root v None)
-laid_with done al v laid = whole_with done al v ∙ ap (λ ms. with_aliases places.Root ms (lay done places.Root v None)) (sym laid)
+pub laid_with : (done al : Members) (v : Data) → AreLaid done al → lay done places.Root (with_aliases al v) None ≡ with_aliases done (lay done places.Root v None)
+laid_with done al v laid = whole_with done al v ∙ ap (λ ms. with_aliases ms (lay done places.Root v None)) (sym laid)
 
 -- without aliases it is laid to what has none
-pub laid_bare : (done : Members) (v : Data) → with_aliases places.Root no_members v ≡ v → with_aliases places.Root no_members (lay done places.Root v None) ≡ lay done places.Root v None
+pub laid_bare : (done : Members) (v : Data) → with_aliases no_members v ≡ v → with_aliases no_members (lay done places.Root v None) ≡ lay done places.Root v None
 laid_bare done v bare = sym (whole_with done no_members v) ∙ ap (λ d. lay done places.Root d None) bare
 
 -- ---- what is too deep
@@ -102,7 +102,7 @@ module _ (n : List ℕ) (f g : Data → Data) (levels : ℕ) (each : (d : Data) 
   value_deep (object ms) = members_deep ms
   value_deep _ = refl
 
-shallow_put : (done : Members) (v : Data) → members_nest done 28 ≡ true → deep_flaws (with_aliases places.Root done v) 32 ≡ deep_flaws (with_aliases places.Root no_members v) 32
+shallow_put : (done : Members) (v : Data) → members_nest done 28 ≡ true → deep_flaws (with_aliases done v) 32 ≡ deep_flaws (with_aliases no_members v) 32
 unfolding with_aliases
 shallow_put done v shallow =
     value_deep trace_name (in_property type_name (in_property aliases_name (in_object done))) (in_property type_name (in_property aliases_name (in_object no_members))) 31
@@ -114,6 +114,6 @@ shallow_put done v shallow =
     theirs _ = refl
 
 -- where shallow aliases are put, what is too deep is so without them
-pub shallow_answer : (done : Members) (v : Data) → members_nest done 28 ≡ true → with_aliases places.Root no_members v ≡ v
-    → if_shallow (with_aliases places.Root done v) ≡ (refusal (deep_flaws v 32) >>= (λ a. Ok (with_aliases places.Root done v)))
-shallow_answer done v shallow bare = ap (λ fs. refusal fs >>= (λ a. Ok (with_aliases places.Root done v))) (shallow_put done v shallow ∙ ap (λ d. deep_flaws d 32) bare)
+pub shallow_answer : (done : Members) (v : Data) → members_nest done 28 ≡ true → with_aliases no_members v ≡ v
+    → if_shallow (with_aliases done v) ≡ (refusal (deep_flaws v 32) >>= (λ a. Ok (with_aliases done v)))
+shallow_answer done v shallow bare = ap (λ fs. refusal fs >>= (λ a. Ok (with_aliases done v))) (shallow_put done v shallow ∙ ap (λ d. deep_flaws d 32) bare)

@@ -3,22 +3,18 @@
 use Rattle.std.proofs.Common.{◌≡◌, ◌&&◌, ◌||◌, ◌++◌, inl, inr, ℕ, zero, suc, List, [], ◌∷◌, Option, Some, None, Result, Ok, Err, is_some, Bool, true, false, not, true≢false, refl, sym, ap, ◌∙◌, subst, ◌+◌, ◌≤◌, String, Global, Less, string_cmp, string_bytes, arith, ◌<◌, if◌then◌else◌}
 use Rattle.std.proofs.lemmas.Bool.{and_parts, cases_Bool, or_parts, or_left, or_right}
 use Rattle.std.specs.{Prelude.⊤, List.AllByRecursion, List.Sorted.IsStrictlySortedBy, Map.keys_of}
-use Rattle.serde_json.specs.{Data.{Data, null, Members, no_members, member, put}, Find.get_member}
+use Rattle.serde_json.specs.{Data.{Data, null, Members, no_members, member, put}, Find.get_member, View.members_view, Events.members_len}
 use Rattle.serde_json.proofs.Views.{get_member-put_other, Entry}
-use Rattle.serde_json.specs.{View.members_view, Events.members_len}
 use Rattle.conf_tree.specs.{Flaw.{Flaw, key, within}, Walk.refusal, declared.fault_kind.FaultKind.FaultKind, Reading.◌>>=◌}
-use Rattle.conf_table.specs.declared.place.Place.TheVariants as places
 use Rattle.conf_inherit.specs.{AliasFlaws.{over_names, first_or_circle, alias_flaws, all_alias_flaws}, Flaws.{flaws, own_flaws, inner_flaws, type_flaws}}
-use Rattle.conf_inherit.specs.{Laying.lay, Limits.{fitting, passed, limit_flaws}, Looks.{Looks, AreResolved}, Named.{all_named, has}}
+use Rattle.conf_inherit.specs.{Laying.lay, Named.{all_named, has}, SameFlaw.is_same_flaw, Circle.{Mentions, Walks}}
+use Rattle.conf_inherit.specs.{Limits.{fitting, passed, limit_flaws}, Looks.{Looks, AreResolved}, Names.{AllAbove, NoClash}, Nesting.{nests, deep_flaws}}
 use Rattle.conf_inherit.specs.Rounds.{Outcomes, has_outcome, is_over, is_empty, if_fitting, outcome, concluded, step, round, all_over, rounds, no_outcomes, Reached, at_first, turned}
-use Rattle.conf_inherit.specs.{SameFlaw.is_same_flaw, Names.{AllAbove, NoClash}, Nesting.{nests, deep_flaws}}
 use Rattle.conf_inherit.specs.{Resolution.{aliases_of, Resolves, from_aliases, if_shallow, resolution_after, resolution_under, resolution}, Places.inner_places}
-use Rattle.conf_inherit.specs.Circle.{Mentions, Walks}
-use Rattle.conf_inherit.proofs.LimitLemmas.{kept_flaws, fitting_value}
+use Rattle.conf_inherit.proofs.{LimitLemmas.{kept_flaws, fitting_value}, SizeLemmas.shallow_nests, SoundPlaces.flawless}
 use Rattle.conf_inherit.proofs.LayingLemmas.{some_is_none, Meets, same, other, meets, put_found, AllEntries, entry_found, get_none, found_each, get_other}
-use Rattle.conf_inherit.proofs.LaysOver.{lays}
-use Rattle.conf_inherit.proofs.FaultLemmas.{named, named_along, blocked, mentioned, is_still, is_put, ready, part_empty, rest_empty, front_empty, back_empty, some_of}
-use Rattle.conf_inherit.proofs.{SizeLemmas.shallow_nests, SoundPlaces.flawless}
+use Rattle.conf_inherit.proofs.{LaysOver.lays, FaultLemmas.{named, named_along, blocked, mentioned, is_still, is_put, ready, part_empty, joined_empty, some_of}}
+use Rattle.conf_table.specs.declared.place.Place.TheVariants as places
 
 pub empty_flaws : (fs : List Flaw) → is_empty fs ≡ true → fs ≡ []
 empty_flaws [] h = refl
@@ -82,7 +78,7 @@ module _ (al : Members) where
   outcome_looks done w r known h =
       let is = outcome_is al done w r h in
       subst (Looks al places.FieldType (w ∷ [])) (fitting_value (lay done places.FieldType w None) r is.fits)
-      (lays al done known w places.FieldType (ready al (Some done) done w places.FieldType no_members (back_empty (own_flaws al places.FieldType false w) (inner_flaws al (Some done) places.FieldType no_members w) is.flawless) is.named) [] None refl)
+      (lays al done known w places.FieldType (ready al (Some done) done w places.FieldType no_members (joined_empty (own_flaws al places.FieldType false w) (inner_flaws al (Some done) places.FieldType no_members w) is.flawless).1 is.named) [] None refl)
 
   resolved_more : (done : Members) (k : List ℕ) (w r : Data) → AreResolved al done → get_member k al ≡ Some w → Looks al places.FieldType (w ∷ []) r → AreResolved al (put k r done)
   resolved_more done k w r known is l n t h = elim (meets n k) [
@@ -137,9 +133,9 @@ module _ (al : Members) where
   unresolved : (done : Members) (w : Data) → all_named (has done) places.FieldType w ≡ true → outcome al done w ≡ None → type_flaws al done places.FieldType w ≡ [] → ⊥
   unresolved done w named h none =
       let fs = flaws al (Some done) places.FieldType false no_members w in
-      let empty : is_empty fs ≡ true = ap is_empty (front_empty fs (limit_flaws done places.FieldType w) none) in
+      let empty : is_empty fs ≡ true = ap is_empty (joined_empty fs (limit_flaws done places.FieldType w) none).0 in
       let at : limit_flaws done places.FieldType w ≡ passed (fitting (lay done places.FieldType w None)) = rw named refl in
-      limit_listed (fitting (lay done places.FieldType w None)) (rw (named, empty) at h) (sym at ∙ back_empty fs (limit_flaws done places.FieldType w) none)
+      limit_listed (fitting (lay done places.FieldType w None)) (rw (named, empty) at h) (sym at ∙ (joined_empty fs (limit_flaws done places.FieldType w) none).1)
 
 -- ---- without a flaw, every alias is resolved
 
@@ -151,7 +147,7 @@ open_flawed (Err f) (Err g) h = elim (cases_Bool (is_same_flaw f g)) [ inl is �
 
 each_sound : (al : Members) (st : Outcomes) (ms : Members) → all_alias_flaws al st ms ≡ [] → AllEntries (λ k w. alias_flaws al st k w ≡ []) ms
 each_sound al st no_members h = tt
-each_sound al st (member k w ms) h = (part_empty (within (key k)) (alias_flaws al st k w) (all_alias_flaws al st ms) h, each_sound al st ms (rest_empty (within (key k)) (alias_flaws al st k w) (all_alias_flaws al st ms) h))
+each_sound al st (member k w ms) h = ((part_empty (within (key k)) (alias_flaws al st k w) (all_alias_flaws al st ms) h).0, each_sound al st ms (part_empty (within (key k)) (alias_flaws al st k w) (all_alias_flaws al st ms) h).1)
 
 module _ (al : Members) (last : Outcomes) (sound : all_alias_flaws al last al ≡ []) where
   sound_alias : (k : List ℕ) (w : Data) → get_member k al ≡ Some w → alias_flaws al last k w ≡ []
@@ -162,8 +158,8 @@ module _ (al : Members) (last : Outcomes) (sound : all_alias_flaws al last al �
   sound_names w none =
       let own = own_flaws al places.FieldType false w in
       let inner = inner_flaws al (Some last.done) places.FieldType no_members w in
-      let all = front_empty (own ++ inner) (limit_flaws last.done places.FieldType w) none in
-      named al (Some last.done) (has al) (λ n x. x) w places.FieldType false no_members (front_empty own inner all) (back_empty own inner all)
+      let all = (joined_empty (own ++ inner) (limit_flaws last.done places.FieldType w) none).0 in
+      named al (Some last.done) (has al) (λ n x. x) w places.FieldType false no_members (joined_empty own inner all).0 (joined_empty own inner all).1
 
   -- no alias is refused in a state that leads to the last one
   abbrev NoneRefused : Outcomes → Type 0
@@ -171,6 +167,7 @@ module _ (al : Members) (last : Outcomes) (sound : all_alias_flaws al last al �
 
   next_none : (k : List ℕ) (w : Data) (st : Outcomes) → get_member k al ≡ Some w → has_outcome st k ≡ false → all_named (is_over al st) places.FieldType w ≡ true → NoneRefused st
       → (o : Option Data) → outcome al st.done w ≡ o → NoneRefused (concluded k st o)
+  unfolding alias_flaws
   next_none k w st is free due before (Some r) e agrees q h = before (agrees_through st (concluded k st (Some r)) last (concluded_agrees k st (Some r) free) agrees) q h
   next_none k w st is free due before None e agrees q h =
       let earlier = agrees_through st (concluded k st None) last (concluded_agrees k st None free) agrees in
@@ -185,6 +182,7 @@ module _ (al : Members) (last : Outcomes) (sound : all_alias_flaws al last al �
       ]
 
   pub all_done : Reached al last → (n : List ℕ) → has al n ≡ true → has last.done n ≡ true
+  unfolding alias_flaws
   all_done reached n h =
       let (w, is) = some_of (get_member n al) h in
       let none = reached_keeps al NoneRefused (λ a q h. true≢false (sym h)) (λ k w st is free due before. next_none k w st is free due before (outcome al st.done w) refl) reached in
@@ -214,8 +212,8 @@ laid_resolves t al n st is apart went sound whole =
     let each = found_each al apart in
     let known : AreResolved al st.done = subst (λ x. AreResolved al x.done) (sym went) (rounds_resolved al n each) in
     let none = flawless al st.done t whole in
-    let own = front_empty (own_flaws al places.Root false t) (inner_flaws al None places.Root no_members t) none in
-    let inner = back_empty (own_flaws al places.Root false t) (inner_flaws al None places.Root no_members t) none in
+    let own = (joined_empty (own_flaws al places.Root false t) (inner_flaws al None places.Root no_members t) none).0 in
+    let inner = (joined_empty (own_flaws al places.Root false t) (inner_flaws al None places.Root no_members t) none).1 in
     let all = all_done al st sound (subst (Reached al) (sym went) (rounds_reached al n each)) in
     subst (λ x. Looks x places.Root (t ∷ []) (lay st.done places.Root t None)) is
     (lays al st.done known t places.Root (ready al None st.done t places.Root no_members inner (named al None (has st.done) all t places.Root false no_members own inner)) [] None refl)
@@ -233,9 +231,9 @@ apart_of (e ∷ es) h = (get_none (string_bytes e.0) (members_view es) (above_of
 
 -- ---- the answer
 
-pub ok_aliases : (a : Result ⊤ Flaw) (k : ⊤ → Result Data Flaw) (r : Data) → (from_aliases a >>= k) ≡ Ok r → (a ≡ Ok tt) × (k tt ≡ Ok r)
-ok_aliases (Ok x) k r h = (refl, h)
-ok_aliases (Err f) k r h = cc
+pub sound_of : (a : Result ⊤ Flaw) → from_aliases a ≡ Ok tt → a ≡ Ok tt
+sound_of (Ok x) h = refl
+sound_of (Err f) h = cc
 
 pub ok_then : (a : Result ⊤ Flaw) (k : ⊤ → Result Data Flaw) (r : Data) → (a >>= k) ≡ Ok r → (a ≡ Ok tt) × (k tt ≡ Ok r)
 ok_then (Ok x) k r h = (refl, h)
@@ -265,10 +263,10 @@ pub tree_sound : (t r : Data) → resolution t ≡ Ok r → TreeSound t r
 tree_sound t r h =
     let al = aliases_of t in
     let st = rounds_of t in
-    let first = ok_aliases (refusal (all_alias_flaws al st al)) _ r h in
+    let first = ok_then (from_aliases (refusal (all_alias_flaws al st al))) _ r h in
     let second = ok_then (refusal (inner_places al st.done places.Root t)) _ r first.1 in
     let last = ok_shallow (lay st.done places.Root t None) r second.1 in
-    record { outcomes = no_flaws (all_alias_flaws al st al) first.0; at_places = no_flaws (inner_places al st.done places.Root t) second.0; value = last.0; shallow = last.1 }
+    record { outcomes = no_flaws (all_alias_flaws al st al) (sound_of _ first.0); at_places = no_flaws (inner_places al st.done places.Root t) second.0; value = last.0; shallow = last.1 }
 
 -- what is answered is the resolution, and nests at most 32 deep
 pub resolution_sound : (t r : Data) → NoClash (aliases_of t) → resolution t ≡ Ok r → Resolves t r × (nests r 32 ≡ true)

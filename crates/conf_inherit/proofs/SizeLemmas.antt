@@ -1,19 +1,17 @@
 -- Counting: the parts of a whole, and what a limit leaves.
-use Rattle.std.proofs.Common.{inr, inl, ◌≡◌, ◌+◌, ◌<◌, ◌≤◌, ◌++◌, ℕ, List, [], ◌∷◌, length, drop, get_or, Option, Some, None, Bool, true, false, string_bytes, refl, sym, ap, ◌∙◌, subst, arith, ◌&&◌, zero, suc, true≢false, max, ◌↔◌, map}
+use Rattle.std.proofs.Common.{inr, inl, ◌≡◌, ◌+◌, ◌<◌, ◌≤◌, ◌++◌, ℕ, List, [], ◌∷◌, length, drop, get_or, Option, Some, None, Bool, true, false, string_bytes, refl, sym, ap, ◌∙◌, subst, arith, ◌&&◌, zero, suc, true≢false, max, ◌↔◌}
 use Rattle.std.proofs.{lemmas.Bool.{and_from, and_parts, cases_Bool}, lemmas.List.at_drop_more}
 use Rattle.serde_json.specs.Data.{Data, array, object, Items, no_items, item, Members, no_members, member, put, depth, items_depth, members_depth}
-use Rattle.serde_json.specs.{Find.{get_member, get_item}, View.{view, items_view, members_view}}
+use Rattle.serde_json.specs.{Find.{get_member, get_item}, View.{view, items_view, members_view}, declared.value.Value.Value}
 use Rattle.serde_json.proofs.Views.{Entry}
-use Rattle.serde_json.specs.declared.value.Value.{Value}
-use Rattle.conf_inherit.specs.{declared.size.Stop.Stop, declared.size.Stop.TheVariants.{Memory, Limit}, FieldPlaces.{place_under, is_base_name, lists_members}}
-use Rattle.conf_inherit.specs.Laying.{lay, has_entry, items_below, lay_members, lay_over, lay_new, lay_new_entry, lay_new_member}
-use Rattle.conf_inherit.specs.{Names.{NoClash, join_items, map_items, IsInOrder}, Size.{size, items_size, members_size, Within, Leaves, IsDue}, Limits.Fits}
-use Rattle.conf_inherit.specs.Nesting.{nests, items_nest, members_nest, deep_flaws, deep_item_flaws, deep_member_flaws, PassesDepth}
+use Rattle.conf_inherit.specs.{declared.size.Stop.Stop, Nesting.{nests, items_nest, members_nest, deep_flaws, deep_item_flaws, deep_member_flaws, PassesDepth}}
+use Rattle.conf_inherit.specs.{declared.size.Stop.TheVariants.{Memory, Limit}, Names.{NoClash, join_items, map_items, IsInOrder}}
+use Rattle.conf_inherit.specs.{FieldPlaces.{place_under, is_base_name, lists_members}, Size.{size, items_size, members_size, Within, Leaves, IsDue}}
+use Rattle.conf_inherit.specs.{Laying.{lay, has_entry, items_below, lay_members, lay_over, lay_new, lay_new_entry, lay_new_member}, Limits.Fits}
 use Rattle.conf_table.specs.declared.place.Place.{Place}
 use Rattle.conf_inherit.proofs.LayingLemmas.{AllEntries, found_each, same, other, meets, get_other, get_same, lay_members-found, get_first, get_none, equal_names, above_turned, above_through, some_is_none, value_same, stands, put_keeps}
-use Rattle.conf_inherit.proofs.FaultLemmas.{Among, only, among_within, first_or_rest, Aligned, aligned_here, aligned_next, part_empty, rest_empty}
-use Rattle.conf_tree.specs.{Flaw.{Flaw, Place as Step, key, index, here, within}, Walk.{HasMember, LeadsTo, IsNested}}
-use Rattle.conf_tree.specs.declared.fault_kind.FaultKind.TheVariants.{TooDeep}
+use Rattle.conf_inherit.proofs.FaultLemmas.{Each, no_flaw, a_flaw, joined, each_along, part, Aligned, aligned_all, aligned_here, aligned_next, part_empty}
+use Rattle.conf_tree.specs.{Flaw.{Flaw, Place as Step, key, index, within}, Walk.{HasMember, LeadsTo, IsNested}}
 
 -- ---- what a limit leaves
 
@@ -277,45 +275,39 @@ mutual
   shallow_items : (i : ℕ) (ds : Items) (levels : ℕ) → deep_item_flaws i ds levels ≡ [] → items_nest ds levels ≡ true
   shallow_items i no_items levels h = refl
   shallow_items i (item d ds) levels h = and_from (nests d levels) (items_nest ds levels)
-      (shallow_nests d levels (part_empty (within (index i)) (deep_flaws d levels) (deep_item_flaws (suc i) ds levels) h))
-      (shallow_items (suc i) ds levels (rest_empty (within (index i)) (deep_flaws d levels) (deep_item_flaws (suc i) ds levels) h))
+      (shallow_nests d levels (part_empty (within (index i)) (deep_flaws d levels) (deep_item_flaws (suc i) ds levels) h).0)
+      (shallow_items (suc i) ds levels (part_empty (within (index i)) (deep_flaws d levels) (deep_item_flaws (suc i) ds levels) h).1)
 
   shallow_members : (ms : Members) (levels : ℕ) → deep_member_flaws ms levels ≡ [] → members_nest ms levels ≡ true
   shallow_members no_members levels h = refl
   shallow_members (member k d ms) levels h = and_from (nests d levels) (members_nest ms levels)
-      (shallow_nests d levels (part_empty (within (key k)) (deep_flaws d levels) (deep_member_flaws ms levels) h))
-      (shallow_members ms levels (rest_empty (within (key k)) (deep_flaws d levels) (deep_member_flaws ms levels) h))
+      (shallow_nests d levels (part_empty (within (key k)) (deep_flaws d levels) (deep_member_flaws ms levels) h).0)
+      (shallow_members ms levels (part_empty (within (key k)) (deep_flaws d levels) (deep_member_flaws ms levels) h).1)
 
 -- what is too deep in a part is too deep in the whole
-in_list : (es : Items) (i : ℕ) (e : Data) (levels : ℕ) (f : Flaw) → get_item i es ≡ Some e → (g : Flaw) × (f ≡ within (index i) g) × PassesDepth levels e g → PassesDepth (suc levels) (array es) f
-in_list es i e levels f there (g, is, (kind, (found, leads, nested, steps))) =
-    subst (PassesDepth (suc levels) (array es)) (sym is) (let out : PassesDepth (suc levels) (array es) (within (index i) g) = (kind, (found, (es, e, refl, there, leads), nested, ap suc steps)) in out)
+in_list : (es : Items) (i : ℕ) (e : Data) (levels : ℕ) (f : Flaw) → get_item i es ≡ Some e → PassesDepth levels e f → PassesDepth (suc levels) (array es) (within (index i) f)
+in_list es i e levels f there (kind, (found, leads, nested, steps)) = (kind, (found, (es, e, refl, there, leads), nested, ap suc steps))
 
-in_object : (ms : Members) (k : List ℕ) (e : Data) (levels : ℕ) (f : Flaw) → HasMember k e ms → (g : Flaw) × (f ≡ within (key k) g) × PassesDepth levels e g → PassesDepth (suc levels) (object ms) f
-in_object ms k e levels f there (g, is, (kind, (found, leads, nested, steps))) =
-    subst (PassesDepth (suc levels) (object ms)) (sym is) (let out : PassesDepth (suc levels) (object ms) (within (key k) g) = (kind, (found, (ms, e, refl, there, leads), nested, ap suc steps)) in out)
+in_object : (ms : Members) (k : List ℕ) (e : Data) (levels : ℕ) (f : Flaw) → HasMember k e ms → PassesDepth levels e f → PassesDepth (suc levels) (object ms) (within (key k) f)
+in_object ms k e levels f there (kind, (found, leads, nested, steps)) = (kind, (found, (ms, e, refl, there, leads), nested, ap suc steps))
 
 mutual
-  pub deep_holds : (d : Data) (levels : ℕ) (f : Flaw) → Among f (deep_flaws d levels) → PassesDepth levels d f
-  deep_holds (array ds) zero f h = subst (PassesDepth 0 (array ds)) (sym (only f (here TooDeep) h)) (let out : PassesDepth 0 (array ds) (here TooDeep) = (refl, (array ds, refl, tt, refl)) in out)
-  deep_holds (array ds) (suc levels) f h = deep_items_hold ds ds 0 levels f (λ j d g. let same : j ≡ 0 + j = omega arith in subst (λ x. get_item x ds ≡ Some d) same g) h
-  deep_holds (object ms) zero f h = subst (PassesDepth 0 (object ms)) (sym (only f (here TooDeep) h)) (let out : PassesDepth 0 (object ms) (here TooDeep) = (refl, (object ms, refl, tt, refl)) in out)
-  deep_holds (object ms) (suc levels) f h = deep_members_hold ms ms levels f (λ k d m. m) h
-  deep_holds _ levels f h = absurd h
+  pub deep_told : (d : Data) (levels : ℕ) → Each (PassesDepth levels d) (deep_flaws d levels)
+  deep_told (array ds) zero = a_flaw (refl, (array ds, refl, tt, refl)) no_flaw
+  deep_told (array ds) (suc levels) = deep_items_told ds ds 0 levels (aligned_all ds)
+  deep_told (object ms) zero = a_flaw (refl, (object ms, refl, tt, refl)) no_flaw
+  deep_told (object ms) (suc levels) = deep_members_told ms ms levels (λ k d m. m)
+  deep_told _ levels = no_flaw
 
-  deep_items_hold : (rest es : Items) (i levels : ℕ) (f : Flaw) → Aligned es i rest → Among f (deep_item_flaws i rest levels) → PassesDepth (suc levels) (array es) f
-  deep_items_hold no_items es i levels f al h = absurd h
-  deep_items_hold (item e rest) es i levels f al h =
-      first_or_rest f (map (within (index i)) (deep_flaws e levels)) (deep_item_flaws (suc i) rest levels) h
-      (λ a. let (g, is, b) = among_within (index i) f (deep_flaws e levels) a in in_list es i e levels f (aligned_here es i e rest al) (g, is, deep_holds e levels g b))
-      (λ a. deep_items_hold rest es (suc i) levels f (aligned_next es i e rest al) a)
+  deep_items_told : (rest es : Items) (i levels : ℕ) → Aligned es i rest → Each (PassesDepth (suc levels) (array es)) (deep_item_flaws i rest levels)
+  deep_items_told no_items es i levels left = no_flaw
+  deep_items_told (item e rest) es i levels left =
+      joined (part (index i) (each_along (λ f h. in_list es i e levels f (aligned_here es i e rest left) h) (deep_told e levels))) (deep_items_told rest es (suc i) levels (aligned_next es i e rest left))
 
-  deep_members_hold : (rest ms : Members) (levels : ℕ) (f : Flaw) → ((k : List ℕ) (d : Data) → HasMember k d rest → HasMember k d ms) → Among f (deep_member_flaws rest levels) → PassesDepth (suc levels) (object ms) f
-  deep_members_hold no_members ms levels f sub h = absurd h
-  deep_members_hold (member k e rest) ms levels f sub h =
-      first_or_rest f (map (within (key k)) (deep_flaws e levels)) (deep_member_flaws rest levels) h
-      (λ a. let (g, is, b) = among_within (key k) f (deep_flaws e levels) a in in_object ms k e levels f (sub k e (inl (refl, refl))) (g, is, deep_holds e levels g b))
-      (λ a. deep_members_hold rest ms levels f (λ q d m. sub q d (inr m)) a)
+  deep_members_told : (rest ms : Members) (levels : ℕ) → ((k : List ℕ) (d : Data) → HasMember k d rest → HasMember k d ms) → Each (PassesDepth (suc levels) (object ms)) (deep_member_flaws rest levels)
+  deep_members_told no_members ms levels sub = no_flaw
+  deep_members_told (member k e rest) ms levels sub =
+      joined (part (key k) (each_along (λ f h. in_object ms k e levels f (sub k e (inl (refl, refl))) h) (deep_told e levels))) (deep_members_told rest ms levels (λ q d m. sub q d (inr m)))
 
 -- ---- what nests at most so deep has nothing too deep
 
@@ -343,11 +335,11 @@ pub depth_excluded : (d : Data) (levels : ℕ) (flaw : Flaw) → nests d levels 
 depth_excluded d levels flaw h (kind, (found, leads, nested, steps)) = omega (arith, steps, (nests_deep d levels).0 h, led_depth flaw.path d found leads nested)
 
 pub nests_shallow : (d : Data) (levels : ℕ) → nests d levels ≡ true → deep_flaws d levels ≡ []
-nests_shallow d levels h = go (deep_flaws d levels) refl
+nests_shallow d levels h = go (deep_flaws d levels) (deep_told d levels)
   where
-    go : (fs : List Flaw) → deep_flaws d levels ≡ fs → deep_flaws d levels ≡ []
-    go [] is = is
-    go (f ∷ fs) is = absurd (depth_excluded d levels f h (deep_holds d levels f (subst (Among f) (sym is) (inl refl))))
+    go : (fs : List Flaw) → Each (PassesDepth levels d) fs → fs ≡ []
+    go [] no_flaw = refl
+    go (f ∷ fs) (a_flaw deep rest) = absurd (depth_excluded d levels f h deep)
 
 -- one more value that nests at most so deep
 pub nest_put : (k : List ℕ) (v : Data) (ms : Members) (levels : ℕ) → nests v levels ≡ true → members_nest ms levels ≡ true → members_nest (put k v ms) levels ≡ true

@@ -1,18 +1,17 @@
 -- What is wrong at a place of field types, part by part.
-use Rattle.std.proofs.Common.{◌≡◌, ◌++◌, ◌<◌, ◌≤◌, ℕ, List, [], length, nat_lt, true, false, Ok, Err, refl, arith, ◌&&◌, zero, suc, Bool, cond, ◌∷◌, map, Some, None, is_some, inl, inr, sym, subst, ◌⊎◌, ap, ◌∙◌, true≢false, Vec, Global}
+use Rattle.std.proofs.Common.{◌≡◌, ◌++◌, ◌<◌, ◌≤◌, ℕ, List, [], length, nat_lt, true, false, Ok, Err, refl, arith, ◌&&◌, zero, suc, Bool, cond, ◌∷◌, Some, None, is_some, inl, inr, sym, subst, ◌⊎◌, ap, ◌∙◌, true≢false, Vec, Global}
 use Rattle.std.proofs.lemmas.Bool.{le-ltb, lt-ltb, cases_Bool, ltb-false}
-use Rattle.serde_json.specs.{Data.{Data, array, Members, null, object, Items, no_items, item, no_members, member, put, string}, View.view}
-use Rattle.serde_json.specs.declared.value.Value.{Value, Array}
+use Rattle.serde_json.specs.{Data.{Data, array, Members, null, object, Items, no_items, item, no_members, member, put, string}, Find.{get_item, get_member}}
+use Rattle.serde_json.specs.{View.view, declared.value.Value.{Value, Array}, Events.items_len}
 use Rattle.serde_json.proofs.Views.{items_len-items_view, view-Array}
-use Rattle.serde_json.specs.{Find.{get_item, get_member}, Events.items_len}
-use Rattle.conf_tree.specs.{Flaw.{here, Flaw, Place as Step, key, index, within}, Walk.{refusal, HasMember}, declared.fault_kind.FaultKind.TheVariants.Limit}
+use Rattle.conf_tree.specs.{Flaw.{here, Place as Step, key, index, within}, Walk.{refusal, HasMember}, declared.fault_kind.FaultKind.TheVariants.Limit}
 use Rattle.conf_table.specs.{declared.place.Place.Place, Table.{rows_of, entries_of, place_in, content_under}}
 use Rattle.conf_inherit.specs.FieldPlaces.{names_alias, names_member_type, lists_extra_members, place_under, place_of_items, is_entry, field_place, leads_on, lists_members}
-use Rattle.conf_inherit.specs.Flaws.{own_flaws, type_flaws, is_wrong, is_unknown, mark_names, mark, base_flaws, inner_flaws, item_flaws, member_flaws, flaws}
-use Rattle.conf_inherit.specs.{Limits.limit_flaws, Places.{too_many, place_flaws, max_extra_members, inner_places, item_places, member_places}}
-use Rattle.conf_inherit.specs.{Faults.{Leads, HasEntry, ListsTooMany}, Named.has}
-use Rattle.conf_inherit.proofs.FaultLemmas.{member_parts, item_parts, is_still, is_put, front_empty, back_empty, part_empty, rest_empty}
-use Rattle.conf_inherit.proofs.{FieldPlaceLemmas.ignored_under, WorkedPlaces.{true_under, under_place}, LimitLemmas.{both_empty, alike_inner, sound_type}}
+use Rattle.conf_inherit.specs.Flaws.{own_flaws, type_flaws, mark_names, mark, inner_flaws, item_flaws, member_flaws, flaws}
+use Rattle.conf_inherit.specs.{Limits.limit_flaws, Places.{too_many, place_flaws, max_extra_members, inner_places, item_places, member_places}, Named.has}
+use Rattle.conf_inherit.specs.Faults.{Leads, HasEntry, ListsTooMany}
+use Rattle.conf_inherit.proofs.{FaultLemmas.{member_parts, item_parts, is_still, is_put, same_part, part_empty, joined_empty}, FieldPlaceLemmas.ignored_under}
+use Rattle.conf_inherit.proofs.{WorkedPlaces.{true_under, under_place}, LimitLemmas.{both_empty, alike_inner, sound_type}}
 use Rattle.conf_table.specs.declared.place.Place.TheVariants as places
 
 pub count_past : (v : Value) (vs : Vec Value Global) → v ≡ Array vs → 256 < length vs.items → refusal (too_many (view v)) ≡ Err (here Limit)
@@ -55,7 +54,7 @@ module _ (al : Members) where
     pub inner : inner_flaws al None s seen v ≡ []
 
   pub part_sound : (s : Place) (taken : Bool) (seen : Members) (v : Data) → own_flaws al s taken v ++ inner_flaws al None s seen v ≡ [] → PartSound s taken seen v
-  part_sound s taken seen v e = record { own = front_empty (own_flaws al s taken v) (inner_flaws al None s seen v) e; inner = back_empty (own_flaws al s taken v) (inner_flaws al None s seen v) e }
+  part_sound s taken seen v e = record { own = (joined_empty (own_flaws al s taken v) (inner_flaws al None s seen v) e).0; inner = (joined_empty (own_flaws al s taken v) (inner_flaws al None s seen v) e).1 }
 
   pub member_sound : (s : Place) (seen ms : Members) (k : List ℕ) (d : Data) → member_flaws al None s seen ms ≡ [] → HasMember k d ms → PartSound (place_under s k) (is_entry s && is_some (get_member k seen)) no_members d
   member_sound s seen no_members k d e there = absurd there
@@ -134,7 +133,7 @@ module _ (al : Members) where
 -- ---- where extra members stand
 
 -- no way from the place leads to a list of extra members
-abbrev leads_elsewhere : Place → Bool
+abbrev pub leads_elsewhere : Place → Bool
 leads_elsewhere places.Root = false
 leads_elsewhere places.Trace = false
 leads_elsewhere places.TraceType = false
@@ -143,10 +142,10 @@ leads_elsewhere places.StreamType = false
 leads_elsewhere places.ExtraMembers = false
 leads_elsewhere _ = true
 
-abbrev LeadsElsewhere : Place → Type 0
+abbrev pub LeadsElsewhere : Place → Type 0
 LeadsElsewhere s = leads_elsewhere s ≡ true
 
-under_elsewhere : (s : Place) (k : List ℕ) → LeadsElsewhere s → LeadsElsewhere (place_under s k)
+pub under_elsewhere : (s : Place) (k : List ℕ) → LeadsElsewhere s → LeadsElsewhere (place_under s k)
 unfolding true_under entries_of rows_of place_in field_place
 under_elsewhere s k h = under_place (λ n. leads_elsewhere) k s (at s h)
   where
@@ -158,36 +157,19 @@ under_elsewhere s k h = under_place (λ n. leads_elsewhere) k s (at s h)
     at places.StreamType h = absurd (true≢false (sym h))
     at _ h = refl
 
-items_elsewhere : (s : Place) → LeadsElsewhere (place_of_items s)
+pub items_elsewhere : (s : Place) → LeadsElsewhere (place_of_items s)
 unfolding place_of_items
 items_elsewhere places.Members = refl
 items_elsewhere places.ExtraMembers = refl
 items_elsewhere _ = refl
-
--- from a place that leads elsewhere there is no way
-led_elsewhere : (path : List Step) (s : Place) (v : Data) (t : Place) (w : Data) → LeadsElsewhere s → Leads s v path t w → LeadsElsewhere t
-led_elsewhere [] s v t w h (place, value) = subst LeadsElsewhere place h
-led_elsewhere (key k ∷ path) s v t w h (ms, d, is, there, leads) = led_elsewhere path (place_under s k) d t w (under_elsewhere s k h) leads
-led_elsewhere (index i ∷ path) s v t w h (es, d, is, there, leads) = led_elsewhere path (place_of_items s) d t w (items_elsewhere s) leads
-
--- an object leads on, or leads elsewhere
-on_or_elsewhere : (s : Place) (k : List ℕ) → (leads_on s ≡ true) ⊎ LeadsElsewhere (place_under s k)
-unfolding leads_on place_under content_under entries_of rows_of place_in field_place
-on_or_elsewhere places.Root k = inl refl
-on_or_elsewhere places.Trace k = inl refl
-on_or_elsewhere places.TraceType k = inl refl
-on_or_elsewhere places.StreamTypes k = inl refl
-on_or_elsewhere places.StreamType k = inl refl
-on_or_elsewhere places.ExtraMembers k = inr refl
-on_or_elsewhere s k = inr (under_elsewhere s k refl)
 
 pub extras_there : (s : Place) → lists_extra_members s ≡ true → s ≡ places.ExtraMembers
 unfolding lists_extra_members
 extras_there places.ExtraMembers h = refl
 extras_there _ h = absurd (true≢false (sym h))
 
-not_elsewhere : (s : Place) → lists_extra_members s ≡ true → LeadsElsewhere s → ⊥
-not_elsewhere s h elsewhere = true≢false (sym elsewhere ∙ ap leads_elsewhere (extras_there s h))
+pub no_extras : (s : Place) (v : Data) → LeadsElsewhere s → ¬ ListsTooMany s v
+no_extras s v elsewhere (es, is, extras, many) = true≢false (sym elsewhere ∙ ap leads_elsewhere (extras_there s extras))
 
 -- ---- what the places say
 
@@ -196,16 +178,14 @@ module _ (al done : Members) where
     pub own : place_flaws al done s v ≡ []
     pub inner : inner_places al done s v ≡ []
 
+  pub place_sound : (s : Place) (v : Data) → place_flaws al done s v ++ inner_places al done s v ≡ [] → PlaceSound s v
+  place_sound s v e = let (own, inner) = joined_empty _ _ e in record { own = own; inner = inner }
+
   pub member_place : (s : Place) (ms : Members) (k : List ℕ) (d : Data) → member_places al done s ms ≡ [] → HasMember k d ms → PlaceSound (place_under s k) d
   member_place s no_members k d e there = absurd there
   member_place s (member l v ms) k d e (inl same) =
-      let fs = place_flaws al done (place_under s l) v ++ inner_places al done (place_under s l) v in
-      let mine = part_empty (within (key l)) fs (member_places al done s ms) e in
-      let both : PlaceSound (place_under s l) v = record { own = front_empty (place_flaws al done (place_under s l) v) (inner_places al done (place_under s l) v) mine; inner = back_empty (place_flaws al done (place_under s l) v) (inner_places al done (place_under s l) v) mine } in
-      subst (λ n. PlaceSound (place_under s n) d) (sym same.0) (subst (PlaceSound (place_under s l)) (sym same.1) both)
-  member_place s (member l v ms) k d e (inr later) =
-      let fs = place_flaws al done (place_under s l) v ++ inner_places al done (place_under s l) v in
-      member_place s ms k d (back_empty (map (within (key l)) fs) (member_places al done s ms) e) later
+      subst (λ n. PlaceSound (place_under s n) d) (sym same.0) (subst (PlaceSound (place_under s l)) (sym same.1) (place_sound (place_under s l) v (part_empty (within (key l)) _ _ e).0))
+  member_place s (member l v ms) k d e (inr later) = member_place s ms k d (part_empty (within (key l)) _ _ e).1 later
 
   pub object_places : (s : Place) (ms : Members) → leads_on s ≡ true → inner_places al done s (object ms) ≡ [] → member_places al done s ms ≡ []
   object_places s ms on e = sym (ap (λ b. cond b (member_places al done s ms) []) on) ∙ e
@@ -213,15 +193,6 @@ module _ (al done : Members) where
   pub list_places : (es : Items) → inner_places al done places.ExtraMembers (array es) ≡ [] → item_places al done places.ExtraMembers 0 no_members es ≡ []
   unfolding lists_extra_members
   list_places es h = h
-
-  place_along : (path : List Step) (s : Place) (v : Data) (t : Place) (w : Data) → PlaceSound s v → lists_extra_members t ≡ true → Leads s v path t w → place_flaws al done t w ≡ []
-  place_along [] s v t w h extras (place, value) = subst (λ x. place_flaws al done x w ≡ []) place (subst (λ x. place_flaws al done s x ≡ []) value h.own)
-  place_along (key k ∷ path) s v t w h extras (ms, d, is, there, leads) = elim (on_or_elsewhere s k) [
-    | inl on ↦ (let inner = object_places s ms on (subst (λ x. inner_places al done s x ≡ []) is h.inner) in
-        place_along path (place_under s k) d t w (member_place s ms k d inner there) extras leads)
-    | inr elsewhere ↦ absurd (not_elsewhere t extras (led_elsewhere path (place_under s k) d t w elsewhere leads))
-  ]
-  place_along (index i ∷ path) s v t w h extras (es, d, is, there, leads) = absurd (not_elsewhere t extras (led_elsewhere path (place_of_items s) d t w (items_elsewhere s) leads))
 
   few : (b : Bool) → cond b (here Limit ∷ []) [] ≡ [] → b ≡ false
   few true e = absurd cc
@@ -231,17 +202,15 @@ module _ (al done : Members) where
   unfolding too_many names_alias names_member_type lists_extra_members
   extras_few es e many =
       let told = sym (place_of_list al done places.ExtraMembers (array es) refl refl refl) ∙ e in
-      let short = ltb-false max_extra_members (items_len es) (few (nat_lt max_extra_members (items_len es)) (front_empty (too_many (array es)) (own_flaws al places.ExtraMembers false (array es)) told)) in
+      let short = ltb-false max_extra_members (items_len es) (few (nat_lt max_extra_members (items_len es)) (joined_empty (too_many (array es)) (own_flaws al places.ExtraMembers false (array es)) told).0) in
       omega (arith, short, many)
 
   pub root_place : (t : Data) → inner_places al done places.Root t ≡ [] → PlaceSound places.Root t
   unfolding names_alias names_member_type lists_extra_members
   root_place t e = record { own = place_of_other al done places.Root t refl refl refl; inner = e }
 
-  pub too_many_excluded : (t : Data) (path : List Step) (s : Place) (w : Data) → inner_places al done places.Root t ≡ [] → Leads places.Root t path s w → ¬ ListsTooMany s w
-  too_many_excluded t path s w e leads (es, is, extras, many) =
-      let at = place_along path places.Root t s w (root_place t e) extras leads in
-      extras_few es (subst (λ x. place_flaws al done x (array es) ≡ []) (extras_there s extras) (subst (λ x. place_flaws al done s x ≡ []) is at)) many
+  pub extras_fine : (s : Place) (v : Data) → place_flaws al done s v ≡ [] → ¬ ListsTooMany s v
+  extras_fine s v e (es, is, extras, many) = extras_few es (subst (λ x. place_flaws al done x (array es) ≡ []) (extras_there s extras) (subst (λ x. place_flaws al done s x ≡ []) is e)) many
 
 -- Where nothing is wrong at the places of a configuration, it has no flaw: no value beside them has a meaning.
 
@@ -285,59 +254,44 @@ extras_or_ignored places.Members h = absurd (true≢false (sym h))
 extras_or_ignored places.ExtraMembers h = inl refl
 extras_or_ignored _ h = inr refl
 
--- a part and the rest are empty
-empty_parts : (f : Flaw → Flaw) (xs ys : List Flaw) → xs ≡ [] → ys ≡ [] → map f xs ++ ys ≡ []
-empty_parts f xs ys e h = both_empty (map f xs) ys (ap (map f) e) h
-
 not_entry : (s : Place) → IsOutside s → is_entry s ≡ false
 unfolding is_entry
 not_entry places.Entry h = absurd (true≢false (sym h))
 not_entry _ h = refl
 
 module _ (al : Members) where
-  known_none : (s : Place) (v : Data) → names_alias s ≡ false → names_member_type s ≡ false → is_unknown al s v ≡ false
-  known_none s (string x) a b = rw (a, b) refl
-  known_none s _ a b = refl
-
   -- a value has no flaw of its own where none has a meaning
   own_none : (s : Place) (v : Data) → lists_members s ≡ false → is_entry s ≡ false → names_alias s ≡ false → names_member_type s ≡ false → own_flaws al s false v ≡ []
-  own_none s v a b c d =
-      let right : is_wrong s v ≡ false = rw (a, b, d) refl in
-      let known = known_none s v c d in
-      rw (right, known) refl
+  own_none s (string x) a b c d = rw (a, b, c, d) refl
+  own_none s _ a b c d = rw (a, b, d) refl
 
-  own_ignored : (v : Data) → own_flaws al places.Ignored false v ≡ []
+  own_ignored : (s : Place) (v : Data) → s ≡ places.Ignored → own_flaws al s false v ≡ []
   unfolding lists_members is_entry names_alias names_member_type
-  own_ignored v = own_none places.Ignored v refl refl refl refl
+  own_ignored s v is = subst (λ t. own_flaws al t false v ≡ []) (sym is) (own_none places.Ignored v refl refl refl refl)
 
   -- an object has no flaw where the value of its first property and the others have none, and no entry has the name
   member_none : (s : Place) (seen : Members) (k : List ℕ) (d : Data) (ms : Members) → is_entry s ≡ false → flaws al None (place_under s k) false no_members d ≡ [] → member_flaws al None s seen ms ≡ [] → member_flaws al None s seen (member k d ms) ≡ []
   member_none s seen k d ms entry mine rest =
-      let taken = is_entry s && is_some (get_member k seen) in
-      let all : flaws al None (place_under s k) taken no_members d ≡ [] = subst (λ b. flaws al None (place_under s k) (b && is_some (get_member k seen)) no_members d ≡ []) (sym entry) mine in
-      empty_parts (within (key k)) (flaws al None (place_under s k) taken no_members d ++ base_flaws None s k d) (member_flaws al None s seen ms) (both_empty (flaws al None (place_under s k) taken no_members d) (base_flaws None s k d) all refl) rest
-
-  ignored_value : (s : Place) (seen : Members) (v : Data) → s ≡ places.Ignored → inner_flaws al None places.Ignored seen v ≡ [] → flaws al None s false seen v ≡ []
-  ignored_value s seen v is inner = subst (λ t. flaws al None t false seen v ≡ []) (sym is) (both_empty (own_flaws al places.Ignored false v) (inner_flaws al None places.Ignored seen v) (own_ignored v) inner)
+      same_part (within (key k)) _ _ _ [] [] [] (subst (λ b. flaws al None (place_under s k) (b && is_some (get_member k seen)) no_members d ≡ []) (sym entry) mine) refl rest
 
   mutual
-    unfolding place_of_items
+    unfolding place_of_items is_entry
 
-    ignored_inner : (v : Data) (seen : Members) → inner_flaws al None places.Ignored seen v ≡ []
-    ignored_inner (array es) seen = ignored_items es places.Ignored 0 no_members refl
-    ignored_inner (object ms) seen = ignored_members ms seen
-    ignored_inner _ seen = refl
+    ignored_inner : (v : Data) (s : Place) (seen : Members) → s ≡ places.Ignored → inner_flaws al None s seen v ≡ []
+    ignored_inner (array es) s seen is = ignored_items es s 0 no_members (ap place_of_items is)
+    ignored_inner (object ms) s seen is = ignored_members ms s seen is
+    ignored_inner _ s seen is = refl
 
     ignored_items : (es : Items) (s : Place) (i : ℕ) (seen : Members) → place_of_items s ≡ places.Ignored → item_flaws al None s i seen es ≡ []
     ignored_items no_items s i seen is = refl
     ignored_items (item e es) s i seen is =
-        empty_parts (within (index i)) (flaws al None (place_of_items s) false seen e) (item_flaws al None s (suc i) (mark e seen) es)
-        (ignored_value (place_of_items s) seen e is (ignored_inner e seen)) (ignored_items es s (suc i) (mark e seen) is)
+        same_part (within (index i)) _ _ _ [] [] [] (own_ignored (place_of_items s) e is) (ignored_inner e (place_of_items s) seen is) (ignored_items es s (suc i) (mark e seen) is)
 
-    ignored_members : (ms : Members) (seen : Members) → member_flaws al None places.Ignored seen ms ≡ []
-    ignored_members no_members seen = refl
-    ignored_members (member k d ms) seen =
-        member_none places.Ignored seen k d ms (not_entry places.Ignored refl) (ignored_value (place_under places.Ignored k) no_members d (ignored_under k) (ignored_inner d no_members)) (ignored_members ms seen)
+    ignored_members : (ms : Members) (s : Place) (seen : Members) → s ≡ places.Ignored → member_flaws al None s seen ms ≡ []
+    ignored_members no_members s seen is = refl
+    ignored_members (member k d ms) s seen is =
+        let under = ap (λ t. place_under t k) is ∙ ignored_under k in
+        member_none s seen k d ms (ap is_entry is) (both_empty _ _ (own_ignored (place_under s k) d under) (ignored_inner d (place_under s k) no_members under)) (ignored_members ms s seen is)
 
 module _ (al done : Members) where
   -- what stands at a place has no flaw of its own
@@ -347,7 +301,7 @@ module _ (al done : Members) where
   own_outside places.Members v out no_type e = absurd (true≢false (sym out))
   own_outside places.Entry v out no_type e = absurd (true≢false (sym out))
   own_outside places.Member v out no_type e = absurd (true≢false (sym out))
-  own_outside places.ExtraMembers v out no_type e = back_empty (too_many v) (own_flaws al places.ExtraMembers false v) (sym (place_of_list al done places.ExtraMembers v refl refl refl) ∙ e)
+  own_outside places.ExtraMembers v out no_type e = (joined_empty (too_many v) (own_flaws al places.ExtraMembers false v) (sym (place_of_list al done places.ExtraMembers v refl refl refl) ∙ e)).1
   own_outside s v out no_type e = own_none al s v refl refl refl refl
 
   -- the extra members of a packet context
@@ -355,13 +309,9 @@ module _ (al done : Members) where
   extras_sound no_items i seen e = refl
   extras_sound (item x es) i seen e =
       let t = place_of_items places.ExtraMembers in
-      let own = own_flaws al t false x in
-      let fs = flaws al (Some done) t false seen x in
-      let mine = front_empty fs (inner_places al done t x) (part_empty (within (index i)) (fs ++ inner_places al done t x) (item_places al done places.ExtraMembers (suc i) (mark x seen) es) e) in
-      let inner = ((alike_inner done al x t seen).0 (back_empty own (inner_flaws al (Some done) t seen x) mine)).0 in
-      empty_parts (within (index i)) (flaws al None t false seen x) (item_flaws al None places.ExtraMembers (suc i) (mark x seen) es)
-      (both_empty own (inner_flaws al None t seen x) (front_empty own (inner_flaws al (Some done) t seen x) mine) inner)
-      (extras_sound es (suc i) (mark x seen) (rest_empty (within (index i)) (fs ++ inner_places al done t x) (item_places al done places.ExtraMembers (suc i) (mark x seen) es) e))
+      let (mine, later) = part_empty (within (index i)) (flaws al (Some done) t false seen x ++ inner_places al done t x) _ e in
+      let (own, inner) = joined_empty (own_flaws al t false x) (inner_flaws al (Some done) t seen x) (joined_empty _ _ mine).0 in
+      same_part (within (index i)) _ _ _ [] [] [] own ((alike_inner done al x t seen).0 inner).0 (extras_sound es (suc i) (mark x seen) later)
 
   sound_value : (v : Data) (s : Place) → IsOutside s → PlaceSound al done s v → (names_alias s ≡ false → inner_flaws al None s no_members v ≡ []) → flaws al None s false no_members v ≡ []
   sound_value v s out p inner = elim (cases_Bool (names_alias s)) [
@@ -383,15 +333,11 @@ module _ (al done : Members) where
     sound_members no_members s out no_type places = refl
     sound_members (member k d ms) s out no_type places =
         let t = place_under s k in
-        let fs = place_flaws al done t d ++ inner_places al done t d in
-        let rest = sound_members ms s out no_type (λ on. rest_empty (within (key k)) fs (member_places al done s ms) (places on)) in
-        let mine : flaws al None t false no_members d ≡ [] = elim (on_or_ignored s k out no_type) [
-          | inl on ↦ (let both = part_empty (within (key k)) fs (member_places al done s ms) (places on) in
-              let p : PlaceSound al done t d = record { own = front_empty (place_flaws al done t d) (inner_places al done t d) both; inner = back_empty (place_flaws al done t d) (inner_places al done t d) both } in
+        member_none al s no_members k d ms (not_entry s out) (elim (on_or_ignored s k out no_type) [
+          | inl on ↦ (let p = place_sound al done t d (part_empty (within (key k)) _ _ (places on)).0 in
               sound_value d t (under_outside s k out on) p (λ no. sound_inner d t (under_outside s k out on) no p))
-          | inr ignored ↦ ignored_value al t no_members d ignored (ignored_inner al d no_members)
-        ] in
-        member_none al s no_members k d ms (not_entry s out) mine rest
+          | inr ignored ↦ both_empty _ _ (own_ignored al t d ignored) (ignored_inner al d t no_members ignored)
+        ]) (sound_members ms s out no_type (λ on. (part_empty (within (key k)) _ _ (places on)).1))
 
   -- where nothing is wrong at the places of a configuration, it has no flaw
   pub flawless : (t : Data) → inner_places al done places.Root t ≡ [] → flaws al None places.Root false no_members t ≡ []

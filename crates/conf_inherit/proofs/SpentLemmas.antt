@@ -1,19 +1,17 @@
 -- A property whose value is written anew.
 use Rattle.std.proofs.Common.{◌≡◌, ℕ, Some, None, List, [], ◌∷◌, string_cmp, string_bytes, nat_cmp, refl, sym, ap, ◌∙◌, ◌+◌, ◌&&◌, ◌||◌, ◌++◌, ◌⊎◌, inl, inr, suc, map, Option, is_some, Bool, true, false, not, true≢false, bytes_eq, if◌then◌else◌, is_eq, subst, arith, rules}
-use Rattle.std.specs.{BTreeMap.is_at, Cmp.Lexicographic.slice_cmp, List.Sorted.IsStrictlySortedBy, Map.{keys_of, set_value}}
 use Rattle.std.proofs.{lemmas.Bool.{cases_Bool, or_left}, lemmas.Slice.Eq.bytes_eq-Decides, lemmas.Map.Text.is_eq-slice_cmp}
-use Rattle.serde_json.specs.{Data.{Data, member, put, null, array, object, Items, no_items, item, Members, no_members}, Find.get_member}
-use Rattle.serde_json.specs.{View.{view, members_view}, declared.value.Value.{Value, Null, the_lemmas}}
+use Rattle.std.specs.{BTreeMap.is_at, Cmp.Lexicographic.slice_cmp, List.Sorted.IsStrictlySortedBy, Map.{keys_of, set_value}}
+use Rattle.serde_json.specs.{Data.{Data, member, put, null, array, object, Items, no_items, item, Members, no_members}, View.{view, members_view}}
+use Rattle.serde_json.specs.{Find.get_member, declared.value.Value.{Value, Null, the_lemmas}, Events.members_len}
 use Rattle.serde_json.proofs.Views.{Entry}
-use Rattle.serde_json.specs.Events.{members_len}
-use Rattle.conf_inherit.specs.{Names.{AllAbove, NoClash}, FieldPlaces.{place_under, place_of_items, lists_extra_members, leads_on}}
-use Rattle.conf_inherit.specs.{AliasFlaws.{over_names, alias_flaws, all_alias_flaws}, Flaws.{own_flaws, flaws, type_flaws, mark}, Laying.lay}
-use Rattle.conf_inherit.specs.{Limits.{fitting, limit_flaws}, Named.{all_named, has}, Places.{place_flaws, inner_places, item_places, member_places}}
+use Rattle.conf_inherit.specs.{Names.{AllAbove, NoClash}, Limits.{fitting, limit_flaws}, Named.{all_named, has}, Spent.{Spends, spent, TurnsLeave}}
+use Rattle.conf_inherit.specs.{FieldPlaces.{place_under, place_of_items, lists_extra_members, leads_on}, AliasFlaws.{over_names, alias_flaws, all_alias_flaws}}
+use Rattle.conf_inherit.specs.{Flaws.{own_flaws, flaws, type_flaws, mark}, Laying.lay, Places.{place_flaws, inner_places, item_places, member_places}}
 use Rattle.conf_inherit.specs.Rounds.{Outcomes, has_outcome, is_over, is_empty, if_fitting, outcome, concluded, step, round, rounds, no_outcomes, Reached, at_first, turned, is_settled, all_settled}
-use Rattle.conf_inherit.specs.Spent.{Spends, spent, TurnsLeave}
 use Rattle.conf_inherit.proofs.LayingLemmas.{above_through, get_none, Meets, same, other, meets, get_other, get_same, same_function, stands, some_is_none}
-use Rattle.conf_inherit.proofs.{RoundLemmas.{above_of, by_turn}, TurnLemmas.{Follows, follows_round, turns_are_rounds, is_settled_state}}
-use Rattle.conf_inherit.proofs.{FaultLemmas.{same_part, is_still, all_pass}, LimitLemmas.{alike_own, alike_flaws}}
+use Rattle.conf_inherit.proofs.{RoundLemmas.{above_of, by_turn}, LimitLemmas.{alike_own, alike_flaws}}
+use Rattle.conf_inherit.proofs.{TurnLemmas.{Follows, follows_round, turns_are_rounds, is_settled_state}, FaultLemmas.{same_part, is_still, all_pass}}
 use Rattle.conf_tree.specs.Flaw.{key, index, within}
 use Rattle.conf_table.specs.declared.place.Place.{Place}
 use Rattle.conf_table.specs.declared.place.Place.TheVariants as places
@@ -196,12 +194,14 @@ same_over_names _ _ done st over h = absurd h
 
 module _ (al now : Members) (st : Outcomes) (left : Spends st.done al now) where
   same_flaws_at : (k : List ℕ) (w : Data) → alias_flaws now st k w ≡ alias_flaws al st k w
+  unfolding alias_flaws
   same_flaws_at k w =
       let own = same_type al now (same_names st.done al now left) st.done places.FieldType w in
       let known = ap (λ x. type_flaws x st.done places.FieldType w) (same_over_names al now st.done st no_members left) in
       cc
 
   spent_flaws_at : (k j : List ℕ) (v w : Data) → k ≡ j → (v ≡ w) ⊎ ((v ≡ null) × (has st.done k ≡ true)) → map (within (key j)) (alias_flaws al st j v) ≡ map (within (key k)) (alias_flaws al st k w)
+  unfolding alias_flaws
   spent_flaws_at k j v w e at = ap (λ l. map (within (key l)) (alias_flaws al st l v)) (sym e) ∙ ap (map (within (key k))) (spent_same (alias_flaws al st k) st k v w at (λ is. rw is refl))
 
   same_each : (ms vs : Members) → Spends st.done ms vs → all_alias_flaws now st vs ≡ all_alias_flaws al st ms

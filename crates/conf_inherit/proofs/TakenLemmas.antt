@@ -1,61 +1,37 @@
 -- The aliases of a configuration: that each was resolved as it is laid, and is sound.
-use Rattle.std.proofs.Common.{string_bytes, is_eq, ◌≡◌, ◌+◌, ◌++◌, ℕ, List, [], map, Option, Some, None, Result, Ok, Err, is_some, Bool, true, false, true≢false, refl, sym, ap, ◌∙◌, subst, ◌⊎◌, inl, inr, String, Vec, Global, rules, if◌then◌else◌, ◌∷◌, option_and_then, nat_cmp}
-use Rattle.std.proofs.lemmas.Bool.{cases_Bool, or_left}
+use Rattle.std.proofs.Common.{string_bytes, is_eq, ◌≡◌, ◌+◌, ◌++◌, ℕ, List, [], map, Option, Some, None, Result, Ok, Err, is_some, true, false, true≢false, refl, sym, ap, ◌∙◌, subst, inl, inr, if◌then◌else◌, ◌∷◌, option_and_then, nat_cmp}
+use Rattle.std.proofs.{lemmas.Bool.{cases_Bool, or_left}, lemmas.Slice.Eq.bytes_eq-Decides, lemmas.Map.Text.is_eq-slice_cmp}
 use Rattle.std.specs.{Prelude.⊤, Str.bytes_eq, Cmp.Lexicographic.slice_cmp}
-use Rattle.std.proofs.{lemmas.Slice.Eq.bytes_eq-Decides, lemmas.Map.Text.is_eq-slice_cmp}
-use Rattle.serde_json.specs.{Data.{Data, null, object, Members, no_members, member}, Find.{get_member, get, as_object}, View.{view, members_view}}
-use Rattle.serde_json.specs.{declared.number.Number.Number, declared.value.Value.{Value, the_lemmas}}
+use Rattle.serde_json.specs.{Data.{Data, null, object, Members, no_members, member}, declared.value.Value.Value}
+use Rattle.serde_json.specs.{Find.{get_member, get, as_object}, View.{view, members_view}}
 use Rattle.serde_json.proofs.Views.{Entry}
 use Rattle.conf_tree.specs.{Flaw.{Flaw, key, within}, Walk.refusal, Reading.◌>>=◌}
 use Rattle.conf_table.specs.{declared.place.Place.Place, Table.{rows_of, entries_of, content_under, place_in}}
-use Rattle.conf_table.specs.declared.place.Place.TheVariants as places
-use Rattle.conf_inherit.specs.{AliasFlaws.all_alias_flaws, Flaws.type_flaws, Laying.{lay, lay_base, lay_members}, Limits.limit_flaws, Named.has, Names.NoClash}
-use Rattle.conf_inherit.specs.Places.{place_flaws, inner_places, member_places}
+use Rattle.conf_inherit.specs.{AliasFlaws.all_alias_flaws, Flaws.type_flaws, Limits.limit_flaws, Names.NoClash, Spent.Spends}
+use Rattle.conf_inherit.specs.{Laying.{lay, lay_base, lay_members}, Whole.{AreLaid, at_way, with_property, in_property, in_object, with_object, with_aliases}}
+use Rattle.conf_inherit.specs.{Named.has, FieldPlaces.{field_place, place_under, names_alias, is_base_name, lists_extra_members, leads_on, names_member_type}}
+use Rattle.conf_inherit.specs.{Places.{place_flaws, inner_places, member_places}, Rounds.{Outcomes, has_outcome, outcome, rounds, no_outcomes, Reached}}
 use Rattle.conf_inherit.specs.Resolution.{trace_name, type_name, aliases_name, from_aliases, aliases_of, members_or_none, if_shallow, resolution_after}
-use Rattle.conf_inherit.specs.Rounds.{Outcomes, has_outcome, outcome, rounds, no_outcomes, Reached}
-use Rattle.conf_inherit.specs.FieldPlaces.{field_place, place_under, names_alias, is_base_name, lists_extra_members, leads_on, names_member_type}
-use Rattle.conf_inherit.specs.{Whole.{holds_aliases, way_to_aliases, AreLaid, aliases_at, with_property, in_property, in_object, with_aliases}, Spent.Spends}
 use Rattle.conf_inherit.proofs.FieldPlaceLemmas.{trace_place, trace_type_place, aliases_place}
 use Rattle.conf_inherit.proofs.LayingLemmas.{differs, cases_Option, value_same, same_members, in_order_lay, lay_members-absent, lay_members-found, same, other, meets, get_other, get_same, AllEntries, all_along, found_each}
-use Rattle.conf_inherit.proofs.{LimitLemmas.fitting_value, SoundPlaces.place_of_type, FaultLemmas.some_of}
-use Rattle.conf_inherit.proofs.{RoundLemmas.{no_flaws, outcome_is, all_done, rounds_reached}, TurnLemmas.reached_sound}
-use Rattle.conf_inherit.proofs.SpentLemmas.{written, same_names, same_alias_flaws, same_places}
-use Rattle.serde_json.specs.declared.value.Value as values
+use Rattle.conf_inherit.proofs.{LimitLemmas.fitting_value, SoundPlaces.place_of_type, RoundLemmas.{no_flaws, sound_of, outcome_is, all_done, rounds_reached}}
+use Rattle.conf_inherit.proofs.{FaultLemmas.some_of, TurnLemmas.reached_sound, SpentLemmas.{written, same_names, same_alias_flaws, same_places}}
+use Rattle.conf_table.specs.declared.place.Place.TheVariants as places
 
 -- ---- an object that has the aliases in it
 
--- how many objects of a value at the place the object of its aliases stands inside
-abbrev pub objects_around : Place → ℕ
-objects_around places.Root = 3
-objects_around places.Trace = 2
-objects_around places.TraceType = 1
-objects_around _ = 0
-
--- what holds of each step of the way holds of the name that leads on
-by_way : (P : Place → List ℕ → Place → Type 0) → P places.Root trace_name places.Trace → P places.Trace type_name places.TraceType → P places.TraceType aliases_name places.FieldTypeAliases
-    → (s : Place) (n : List ℕ) → way_to_aliases s ≡ Some n → P s n (place_under s n)
-unfolding way_to_aliases
-by_way P a b c places.Root n way = subst (λ k. P places.Root k (place_under places.Root k)) (value_same trace_name n way) (subst (P places.Root trace_name) (sym trace_place) a)
-by_way P a b c places.Trace n way = subst (λ k. P places.Trace k (place_under places.Trace k)) (value_same type_name n way) (subst (P places.Trace type_name) (sym trace_type_place) b)
-by_way P a b c places.TraceType n way = subst (λ k. P places.TraceType k (place_under places.TraceType k)) (value_same aliases_name n way) (subst (P places.TraceType aliases_name) (sym aliases_place) c)
-by_way P a b c _ n way = absurd (let bad : None ≡ Some n = way in cc)
-
--- one object fewer is around the aliases at a property on the way to them
-pub fewer_around : (s : Place) (k : List ℕ) → way_to_aliases s ≡ Some k → objects_around s ≡ objects_around (place_under s k) + 1
-fewer_around s k way = by_way (λ s k t. objects_around s ≡ objects_around t + 1) refl refl refl s k way
-
 -- such an object inherits nothing
-pub no_base : (s : Place) (k : List ℕ) → holds_aliases s ≡ true → is_base_name s k ≡ false
-unfolding holds_aliases is_base_name
+pub no_base : (s : Place) (k : List ℕ) → leads_on s ≡ true → is_base_name s k ≡ false
+unfolding leads_on is_base_name
 no_base places.FieldType k h = absurd (true≢false (sym h))
 no_base places.Member k h = absurd (true≢false (sym h))
 no_base _ k h = refl
 
-no_lay_base : (done : Members) (s : Place) (ms : Members) → holds_aliases s ≡ true → lay_base done s ms None ≡ None
+no_lay_base : (done : Members) (s : Place) (ms : Members) → leads_on s ≡ true → lay_base done s ms None ≡ None
 no_lay_base done s no_members h = refl
 no_lay_base done s (member k d ms) h = rw (no_base s k h) (no_lay_base done s ms h)
 
-pub laid_object : (done : Members) (s : Place) (ms : Members) → holds_aliases s ≡ true → lay done s (object ms) None ≡ object (lay_members done s ms no_members)
+pub laid_object : (done : Members) (s : Place) (ms : Members) → leads_on s ≡ true → lay done s (object ms) None ≡ object (lay_members done s ms no_members)
 laid_object done s ms h = rw (no_lay_base done s ms h) refl
 
 laid_outcome : (al done : Members) (w r : Data) → outcome al done w ≡ Some r → lay done places.FieldType w None ≡ r
@@ -71,10 +47,6 @@ no_done al st q own none = elim (cases_Option (get_member q st.done)) [
 alias_laid : (done : Members) (q : List ℕ) (w : Data) (al : Members) → get_member q al ≡ Some w → get_member q (lay_members done places.FieldTypeAliases al no_members) ≡ Some (lay done places.FieldType w None)
 unfolding place_under content_under entries_of rows_of place_in field_place is_base_name
 alias_laid done q w al is = lay_members-found done places.FieldTypeAliases q w al no_members refl is
-
-sound_of : (a : Result ⊤ Flaw) → from_aliases a ≡ Ok tt → a ≡ Ok tt
-sound_of (Ok x) h = refl
-sound_of (Err f) h = cc
 
 module _ (al : Members) (n : ℕ) (st : Outcomes) (apart : NoClash al) (turned : st ≡ rounds al n no_outcomes) (sound : from_aliases (refusal (all_alias_flaws al st al)) ≡ Ok tt) where
   reached : Reached al st
@@ -136,10 +108,6 @@ whole_sound al n st apart turned sound =
 
 -- ---- the value of one name
 
-then_some : (o : Option Data) → o ≡ option_and_then (λ d. Some d) o
-then_some None = refl
-then_some (Some d) = refl
-
 members_twice : (n : List ℕ) (f g h : Data → Data) → ((d : Data) → f (g d) ≡ h d) → (ms : Members) → with_property n f (with_property n g ms) ≡ with_property n h ms
 members_twice n f g h each no_members = refl
 members_twice n f g h each (member k d ms) = elim (cases_Bool (bytes_eq k n)) [
@@ -189,8 +157,8 @@ object_twice al ns _ = refl
 
 -- what holds of two such values along the way, from the object of the aliases up, holds of the configuration
 pub on_way : (P : Place → (Data → Data) → (Data → Data) → Type 0) (al ns : Members) → P places.FieldTypeAliases (in_object al) (in_object ns)
-    → ((s : Place) (n : List ℕ) (f g : Data → Data) → holds_aliases s ≡ true → P (place_under s n) f g → P s (in_property n f) (in_property n g)) → P places.Root (with_aliases places.Root al) (with_aliases places.Root ns)
-unfolding with_aliases holds_aliases
+    → ((s : Place) (n : List ℕ) (f g : Data → Data) → leads_on s ≡ true → P (place_under s n) f g → P s (in_property n f) (in_property n g)) → P places.Root (with_aliases al) (with_aliases ns)
+unfolding with_aliases leads_on
 on_way P al ns last next =
     let aliases = next places.TraceType aliases_name (in_object al) (in_object ns) refl (subst (λ s. P s (in_object al) (in_object ns)) (sym aliases_place) last) in
     let f = in_property aliases_name (in_object al) in
@@ -198,14 +166,14 @@ on_way P al ns last next =
     let type = next places.Trace type_name f g refl (subst (λ s. P s f g) (sym trace_type_place) aliases) in
     next places.Root trace_name (in_property type_name f) (in_property type_name g) refl (subst (λ s. P s (in_property type_name f) (in_property type_name g)) (sym trace_place) type)
 
-pub aliases_twice : (al ns : Members) (t : Data) → with_aliases places.Root al (with_aliases places.Root ns t) ≡ with_aliases places.Root al t
+pub aliases_twice : (al ns : Members) (t : Data) → with_aliases al (with_aliases ns t) ≡ with_aliases al t
 aliases_twice al ns t = on_way (λ s f g. (v : Data) → f (g v) ≡ f v) al ns (object_twice al ns) (λ s n f g above each. value_twice n f g f each) t
 
 own_object : (al : Members) (d : Data) → al ≡ members_or_none (Some d) → in_object al d ≡ d
 own_object al (object ms) h = ap object h
 own_object al _ h = refl
 
-own_aliases : (t : Data) → with_aliases places.Root (aliases_of t) t ≡ t
+own_aliases : (t : Data) → with_aliases (aliases_of t) t ≡ t
 unfolding with_aliases
 own_aliases t =
     let al = aliases_of t in
@@ -218,46 +186,14 @@ own_aliases t =
     ∙ ap members_or_none in_type))))
 
 -- the aliases, put back where they were
-pub back_again : (t : Data) (al none : Members) (v : Data) → al ≡ aliases_of t → v ≡ with_aliases places.Root none t → with_aliases places.Root al v ≡ t
-back_again t al none v own taken = ap (λ ms. with_aliases places.Root ms v) own ∙ ap (with_aliases places.Root (aliases_of t)) taken ∙ aliases_twice (aliases_of t) none t ∙ own_aliases t
+pub back_again : (t : Data) (al none : Members) (v : Data) → al ≡ aliases_of t → v ≡ with_aliases none t → with_aliases al v ≡ t
+back_again t al none v own taken = ap (λ ms. with_aliases ms v) own ∙ ap (with_aliases (aliases_of t)) taken ∙ aliases_twice (aliases_of t) none t ∙ own_aliases t
 
 -- what they were taken out of has none
-pub bare_again : (t : Data) (es : List Entry) (v : Data) → es ≡ [] → v ≡ with_aliases places.Root (members_view es) t → with_aliases places.Root no_members v ≡ v
+pub bare_again : (t : Data) (es : List Entry) (v : Data) → es ≡ [] → v ≡ with_aliases (members_view es) t → with_aliases no_members v ≡ v
 bare_again t es v none taken =
-    let bare : v ≡ with_aliases places.Root no_members t = taken ∙ ap (λ xs. with_aliases places.Root (members_view xs) t) none in
-    ap (with_aliases places.Root no_members) bare ∙ aliases_twice no_members no_members t ∙ sym bare
-
--- ---- at each place on the way
-
-pub with_way : (s : Place) (n : List ℕ) (al ms : Members) → way_to_aliases s ≡ Some n → with_aliases s al (object ms) ≡ object (with_property n (with_aliases (place_under s n) al) ms)
-unfolding with_aliases
-with_way s n al ms way = by_way (λ s n t. with_aliases s al (object ms) ≡ object (with_property n (with_aliases t al) ms)) refl refl refl s n way
-
-then_then : (f g : Data → Option Data) (o : Option Data) → option_and_then f (option_and_then g o) ≡ option_and_then (λ d. option_and_then f (g d)) o
-then_then f g None = refl
-then_then f g (Some d) = refl
-
-pub at_way : (s : Place) (n : List ℕ) (ms : Members) → way_to_aliases s ≡ Some n → aliases_at s (object ms) ≡ option_and_then (aliases_at (place_under s n)) (get_member n ms)
-at_way s n ms way = by_way (λ s n t. aliases_at s (object ms) ≡ option_and_then (aliases_at t) (get_member n ms)) (then_then (get aliases_name) (get type_name) (get_member trace_name ms)) refl (then_some (get_member aliases_name ms)) s n way
-
--- a name on the way leads on
-pub way_leads : (s : Place) (n : List ℕ) → way_to_aliases s ≡ Some n → holds_aliases (place_under s n) ≡ true
-unfolding holds_aliases
-way_leads s n way = by_way (λ s n t. holds_aliases t ≡ true) refl refl refl s n way
-
--- an object with no such name is that of the aliases
-pub no_way : (s : Place) (P : Place → Type 0) → holds_aliases s ≡ true → way_to_aliases s ≡ None → P places.FieldTypeAliases → P s
-unfolding way_to_aliases holds_aliases
-no_way places.Root P above none p = let bad : Some trace_name ≡ None = none in cc
-no_way places.Trace P above none p = let bad : Some type_name ≡ None = none in cc
-no_way places.TraceType P above none p = let bad : Some aliases_name ≡ None = none in cc
-no_way places.FieldTypeAliases P above none p = p
-no_way _ P above none p = absurd (true≢false (sym above))
-
--- such an object is taken whole
-pub their_own : (s : Place) (al ms : Members) → holds_aliases s ≡ true → way_to_aliases s ≡ None → (ms ≡ members_or_none (aliases_at s (object ms))) × (object al ≡ with_aliases s al (object ms))
-unfolding with_aliases
-their_own s al ms above none = no_way s (λ x. (ms ≡ members_or_none (aliases_at x (object ms))) × (object al ≡ with_aliases x al (object ms))) above none (refl, refl)
+    let bare : v ≡ with_aliases no_members t = taken ∙ ap (λ xs. with_aliases (members_view xs) t) none in
+    ap (with_aliases no_members) bare ∙ aliases_twice no_members no_members t ∙ sym bare
 
 -- ---- what is wrong at the places, whatever sound aliases there are
 
@@ -266,14 +202,14 @@ module _ (al done : Members) where
   parts s v = place_flaws al done s v ++ inner_places al done s v
 
   -- an object with the aliases in it is no field type
-  no_type : (s : Place) (v : Data) → holds_aliases s ≡ true → place_flaws al done s v ≡ []
-  unfolding holds_aliases place_flaws names_alias names_member_type lists_extra_members
+  no_type : (s : Place) (v : Data) → leads_on s ≡ true → place_flaws al done s v ≡ []
+  unfolding leads_on place_flaws names_alias names_member_type lists_extra_members
   no_type places.FieldType v above = absurd (true≢false (sym above))
   no_type places.Member v above = absurd (true≢false (sym above))
   no_type places.ExtraMembers v above = absurd (true≢false (sym above))
   no_type _ v above = refl
 
-  module _ (s : Place) (n : List ℕ) (f g : Data → Data) (above : holds_aliases s ≡ true) (alike : (d : Data) → parts (place_under s n) (f d) ≡ parts (place_under s n) (g d)) where
+  module _ (s : Place) (n : List ℕ) (f g : Data → Data) (above : leads_on s ≡ true) (alike : (d : Data) → parts (place_under s n) (f d) ≡ parts (place_under s n) (g d)) where
     members_alike : (ms : Members) → member_places al done s (with_property n f ms) ≡ member_places al done s (with_property n g ms)
     members_alike no_members = refl
     members_alike (member k d ms) = elim (cases_Bool (bytes_eq k n)) [
@@ -292,42 +228,31 @@ module _ (al done : Members) where
     alike_object (object os) = alike
     alike_object _ = refl
 
-    alike_aliases : (t : Data) → inner_places al done places.Root (with_aliases places.Root ms t) ≡ inner_places al done places.Root (with_aliases places.Root ns t)
+    alike_aliases : (t : Data) → inner_places al done places.Root (with_aliases ms t) ≡ inner_places al done places.Root (with_aliases ns t)
     unfolding place_flaws names_alias names_member_type lists_extra_members
     alike_aliases t = on_way (λ s f g. (v : Data) → parts s (f v) ≡ parts s (g v)) ms ns alike_object (λ s n f g above each. alike_under s n f g above each) t
 
   -- those of a configuration without its aliases are those with them
-  pub places_without : (ms : Members) (v : Data) → with_aliases places.Root no_members v ≡ v → member_places al done places.FieldTypeAliases ms ≡ [] → inner_places al done places.Root v ≡ inner_places al done places.Root (with_aliases places.Root ms v)
+  pub places_without : (ms : Members) (v : Data) → with_aliases no_members v ≡ v → member_places al done places.FieldTypeAliases ms ≡ [] → inner_places al done places.Root v ≡ inner_places al done places.Root (with_aliases ms v)
   places_without ms v bare sound = ap (inner_places al done places.Root) (sym bare) ∙ alike_aliases no_members ms (sym sound) v
 
 -- ---- what is laid
 
--- a value of another kind is no object
-abbrev pub IsOther : Value → Type 0
-IsOther v = (v ≡ values.Null) ⊎ (((b : Bool) × (v ≡ values.Bool b)) ⊎ (((n : Number) × (v ≡ values.Number n)) ⊎ (((s : String Global) × (v ≡ values.String s)) ⊎ ((es : Vec Value Global) × (v ≡ values.Array es)))))
+pub at_none : (way : List (List ℕ)) → at_way way None ≡ None
+at_none [] = refl
+at_none (k ∷ way) = at_none way
 
-pub no_object : (v : Value) → IsOther v → as_object (view v) ≡ None
-no_object v (inl e) = subst (λ x. as_object (view x) ≡ None) (sym e) (search (rules, the_lemmas))
-no_object v (inr (inl (x, e))) = subst (λ x. as_object (view x) ≡ None) (sym e) (search (rules, the_lemmas))
-no_object v (inr (inr (inl (x, e)))) = subst (λ x. as_object (view x) ≡ None) (sym e) (search (rules, the_lemmas))
-no_object v (inr (inr (inr (inl (x, e))))) = subst (λ x. as_object (view x) ≡ None) (sym e) (search (rules, the_lemmas))
-no_object v (inr (inr (inr (inr (x, e))))) = subst (λ x. as_object (view x) ≡ None) (sym e) (search (rules, the_lemmas))
-
--- what is no object has no aliases
-abbrev AsItIs : Place → Members → Data → Type 0
-AsItIs s al v = (with_aliases s al v ≡ v) × (no_members ≡ members_or_none (aliases_at s v))
-
-pub as_it_is : (al : Members) (s : Place) (v : Data) → as_object v ≡ None → AsItIs s al v
-unfolding with_aliases
-as_it_is al s (object ms) h = cc
-as_it_is al places.Root _ h = (refl, refl)
-as_it_is al _ _ h = (refl, refl)
+-- what is no object has none, and stays
+pub as_it_is : (way : List (List ℕ)) (al : Members) (v : Data) → as_object v ≡ None → (with_object way al v ≡ v) × (no_members ≡ members_or_none (at_way way (Some v)))
+as_it_is way al (object ms) h = cc
+as_it_is [] al _ h = (refl, refl)
+as_it_is (k ∷ way) al _ h = (refl, ap members_or_none (sym (at_none way)))
 
 -- ---- what is answered
 
-module _ (al now : Members) (n : ℕ) (st : Outcomes) (v : Data) (bare : with_aliases places.Root no_members v ≡ v) (apart : NoClash al) (settled : st ≡ rounds al n no_outcomes) (spent : Spends st.done al now) where
+module _ (al now : Members) (n : ℕ) (st : Outcomes) (v : Data) (bare : with_aliases no_members v ≡ v) (apart : NoClash al) (settled : st ≡ rounds al n no_outcomes) (spent : Spends st.done al now) where
   abbrev whole : Data
-  whole = with_aliases places.Root al v
+  whole = with_aliases al v
 
   abbrev then_laid : ⊤ → Result Data Flaw
   then_laid a = if_shallow (lay st.done places.Root whole None)

@@ -1,12 +1,11 @@
 -- Worked rows of inheritance, by computing: three aliases that inherit one from another, two that inherit from each
 -- other, and one that names itself and what is no alias.
 use Rattle.std.specs.Prelude.{◌≡◌, ℕ, List, codes, Ok, Err, [], ◌∷◌, refl}
-use Rattle.serde_json.specs.Data.{Data, number, string, array, object, unsigned, no_items, item, Members, no_members, member}
+use Rattle.serde_json.specs.Data.{Data, number, string, array, object, unsigned, Items, no_items, item, Members, no_members, member}
 use Rattle.conf_tree.specs.{declared.fault_kind.FaultKind.TheVariants.{InheritCycle, NoSuchAlias}, Flaw.{key, index}}
 use Rattle.conf_table.specs.Table.{rows_of, entries_of, content_under, place_in}
-use Rattle.conf_inherit.specs.{Resolution.{Resolves, aliases_of, resolution, trace_name, type_name, aliases_name}, Names.NoClash}
+use Rattle.conf_inherit.specs.{AliasFlaws.alias_flaws, Resolution.{Resolves, aliases_of, resolution, trace_name, type_name, aliases_name}, Names.NoClash, Places.place_flaws}
 use Rattle.conf_inherit.specs.FieldPlaces.{field_place, field_type_name, names_alias, place_under, place_in_type, inherit_name, names_member_type, place_of_items, lists_members, lists_extra_members, is_entry, is_base_name, leads_on}
-use Rattle.conf_inherit.specs.Places.{place_flaws}
 use Rattle.conf_inherit.proofs.RoundLemmas.{resolution_sound}
 
 -- `{"class": "uint", "size": size}`
@@ -17,23 +16,25 @@ integer size = object (member (codes "class") (string (codes "uint")) (member (c
 abbrev entry : List ℕ → Data → Data
 entry name type = object (member name (object (member (codes "field-type") type no_members)) no_members)
 
+-- `{"class": "struct", "members": members}`
+abbrev structure : Items → Data
+structure members = object (member (codes "class") (string (codes "struct")) (member (codes "members") (array members) no_members))
+
+-- `{"$inherit": base, "members": members}`
+abbrev heir_of : List ℕ → Items → Data
+heir_of base members = object (member (codes "$inherit") (string base) (member (codes "members") (array members) no_members))
+
 -- x of 8 bits and y of 8 bits
 abbrev alias_a : Data
-alias_a =
-    object (member (codes "class") (string (codes "struct"))
-    (member (codes "members") (array (item (entry (codes "x") (integer 8)) (item (entry (codes "y") (integer 8)) no_items))) no_members))
+alias_a = structure (item (entry (codes "x") (integer 8)) (item (entry (codes "y") (integer 8)) no_items))
 
 -- inherits from A, with an x of 4 bits
 abbrev alias_b : Data
-alias_b =
-    object (member (codes "$inherit") (string (codes "A"))
-    (member (codes "members") (array (item (entry (codes "x") (object (member (codes "size") (number (unsigned 4)) no_members))) no_items)) no_members))
+alias_b = heir_of (codes "A") (item (entry (codes "x") (object (member (codes "size") (number (unsigned 4)) no_members))) no_items)
 
 -- inherits from B, with a z of 4 bits behind
 abbrev alias_c : Data
-alias_c =
-    object (member (codes "$inherit") (string (codes "B"))
-    (member (codes "members") (array (item (entry (codes "z") (integer 4)) no_items)) no_members))
+alias_c = heir_of (codes "B") (item (entry (codes "z") (integer 4)) no_items)
 
 -- a configuration with these aliases
 abbrev with_aliases : Members → Data
@@ -44,21 +45,17 @@ abbrev three : Data
 three = with_aliases (member (codes "A") alias_a (member (codes "B") alias_b (member (codes "C") alias_c no_members)))
 
 abbrev resolved_b : Data
-resolved_b =
-    object (member (codes "class") (string (codes "struct"))
-    (member (codes "members") (array (item (entry (codes "x") (integer 4)) (item (entry (codes "y") (integer 8)) no_items))) no_members))
+resolved_b = structure (item (entry (codes "x") (integer 4)) (item (entry (codes "y") (integer 8)) no_items))
 
 -- x of 4 bits, y and z, in this order
 abbrev resolved_c : Data
-resolved_c =
-    object (member (codes "class") (string (codes "struct"))
-    (member (codes "members") (array (item (entry (codes "x") (integer 4)) (item (entry (codes "y") (integer 8)) (item (entry (codes "z") (integer 4)) no_items)))) no_members))
+resolved_c = structure (item (entry (codes "x") (integer 4)) (item (entry (codes "y") (integer 8)) (item (entry (codes "z") (integer 4)) no_items)))
 
 abbrev resolved_three : Data
 resolved_three = with_aliases (member (codes "A") alias_a (member (codes "B") resolved_b (member (codes "C") resolved_c no_members)))
 
 three_resolved : resolution three ≡ Ok resolved_three
-unfolding trace_name type_name aliases_name field_type_name names_alias place_under content_under entries_of rows_of place_in field_place place_in_type inherit_name names_member_type place_of_items lists_members lists_extra_members is_entry is_base_name leads_on place_flaws
+unfolding alias_flaws trace_name type_name aliases_name field_type_name names_alias place_under content_under entries_of rows_of place_in field_place place_in_type inherit_name names_member_type place_of_items lists_members lists_extra_members is_entry is_base_name leads_on place_flaws
 three_resolved = refl
 
 three_apart : NoClash (aliases_of three)
@@ -76,7 +73,7 @@ circle =
     (member (codes "Q") (object (member (codes "$inherit") (string (codes "P")) no_members)) no_members))
 
 circle_refused : resolution circle ≡ Err (record { path = key (codes "trace") ∷ key (codes "type") ∷ key (codes "$field-type-aliases") ∷ key (codes "P") ∷ []; kind = InheritCycle })
-unfolding trace_name type_name aliases_name field_type_name names_alias place_under content_under entries_of rows_of place_in field_place place_in_type inherit_name lists_members is_entry names_member_type is_base_name
+unfolding alias_flaws trace_name type_name aliases_name field_type_name names_alias place_under content_under entries_of rows_of place_in field_place place_in_type inherit_name lists_members is_entry names_member_type is_base_name
 circle_refused = refl
 
 -- P with the members x and y, of these types
@@ -86,10 +83,10 @@ two_texts one other =
 
 -- the flaw stands before the circle
 flaw_before_circle : resolution (two_texts (codes "nope") (codes "P")) ≡ Err (record { path = key (codes "trace") ∷ key (codes "type") ∷ key (codes "$field-type-aliases") ∷ key (codes "P") ∷ key (codes "members") ∷ index 0 ∷ key (codes "x") ∷ []; kind = NoSuchAlias })
-unfolding trace_name type_name aliases_name field_type_name names_alias place_under content_under entries_of rows_of place_in field_place place_in_type inherit_name lists_members is_entry names_member_type place_of_items
+unfolding alias_flaws trace_name type_name aliases_name field_type_name names_alias place_under content_under entries_of rows_of place_in field_place place_in_type inherit_name lists_members is_entry names_member_type place_of_items
 flaw_before_circle = refl
 
 -- the circle stands before the flaw
 circle_before_flaw : resolution (two_texts (codes "P") (codes "nope")) ≡ Err (record { path = key (codes "trace") ∷ key (codes "type") ∷ key (codes "$field-type-aliases") ∷ key (codes "P") ∷ []; kind = InheritCycle })
-unfolding trace_name type_name aliases_name field_type_name names_alias place_under content_under entries_of rows_of place_in field_place place_in_type inherit_name lists_members is_entry names_member_type place_of_items is_base_name
+unfolding alias_flaws trace_name type_name aliases_name field_type_name names_alias place_under content_under entries_of rows_of place_in field_place place_in_type inherit_name lists_members is_entry names_member_type place_of_items is_base_name
 circle_before_flaw = refl

@@ -18,7 +18,7 @@ first_or_circle (Err own) (Ok x) = here InheritCycle ∷ []
 first_or_circle (Err own) (Err first) = if is_same_flaw own first then own ∷ [] else here InheritCycle ∷ []
 
 -- an alias that can't be resolved has the flaws of its type; one without an outcome leads into a circle
-abbrev pub alias_flaws : Members → Outcomes → List ℕ → Data → List Flaw
+unfoldable pub alias_flaws : Members → Outcomes → List ℕ → Data → List Flaw
 alias_flaws al st k w =
     if has st.done k then []
     else if has st.refused k then type_flaws al st.done places.FieldType w

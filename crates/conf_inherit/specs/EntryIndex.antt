@@ -1,8 +1,7 @@
 -- The entries of a members list by their names.
 use Rattle.std.specs.{Prelude.{◌≡◌, ℕ, suc, List, Option, None, Some, is_some, nat_lt, if◌then◌else◌}, Borrow.Bor, BTreeMap.{BTreeMap, get_by}}
 use Rattle.std.specs.{Cmp.Lexicographic.slice_cmp, Ordering.nat_cmp}
-use Rattle.serde_json.specs.{Data.{Data, object, Items, no_items, item, Members, no_members, member}, Find.get}
-use Rattle.conf_inherit.specs.Laying.{lay_over_entry}
+use Rattle.serde_json.specs.{Data.{Data, Items, no_items, item, Members, no_members, member}, Find.get}
 
 -- the place, if a value has the name
 abbrev pub place_if : List ℕ → Data → ℕ → Option ℕ
@@ -31,13 +30,3 @@ lower (Some i) (Some j) = if nat_lt j i then Some j else Some i
 abbrev pub lowest : (List ℕ → Option ℕ) → Members → Option ℕ
 lowest f no_members = None
 lowest f (member n d ms) = lower (f n) (lowest f ms)
-
--- the lowest place of a value's names
-abbrev pub lowest_of : (List ℕ → Option ℕ) → Data → Option ℕ
-lowest_of f (object ms) = lowest f ms
-lowest_of f _ = None
-
--- a value, with the entry that was found for it over it
-abbrev pub lay_over_found : Members → Option Data → Data → Data
-lay_over_found done None b = b
-lay_over_found done (Some e) b = lay_over_entry done e b b

@@ -1,32 +1,17 @@
 -- A whole configuration, whose aliases are taken out, and the resolved ones put into what the rest is laid to.
-use Rattle.std.specs.{Prelude.{◌≡◌, ℕ, List, Option, None, Some, option_and_then, Bool, true, false, if◌then◌else◌}, Str.bytes_eq}
+use Rattle.std.specs.{Prelude.{◌≡◌, ℕ, List, [], ◌∷◌, Option, option_and_then, if◌then◌else◌}, Str.bytes_eq}
 use Rattle.serde_json.specs.{Data.{Data, object, Members, no_members, member}, Find.get}
-use Rattle.conf_table.specs.declared.place.Place.{Place}
 use Rattle.conf_table.specs.declared.place.Place.TheVariants as places
 use Rattle.conf_inherit.specs.{Laying.lay_members, Resolution.{trace_name, type_name, aliases_name}}
 
--- an object has the aliases in it, or is their object
-unfoldable pub holds_aliases : Place → Bool
-holds_aliases places.Root = true
-holds_aliases places.Trace = true
-holds_aliases places.TraceType = true
-holds_aliases places.FieldTypeAliases = true
-holds_aliases _ = false
+-- the way from a configuration to the object of its aliases
+abbrev pub way_to_aliases : List (List ℕ)
+way_to_aliases = trace_name ∷ type_name ∷ aliases_name ∷ []
 
--- the name of the property of an object that has the aliases in it, or is their object
-unfoldable pub way_to_aliases : Place → Option (List ℕ)
-way_to_aliases places.Root = Some trace_name
-way_to_aliases places.Trace = Some type_name
-way_to_aliases places.TraceType = Some aliases_name
-way_to_aliases _ = None
-
--- the value of the aliases in a value
-abbrev pub aliases_at : Place → Data → Option Data
-aliases_at places.Root v = option_and_then (get aliases_name) (option_and_then (get type_name) (get trace_name v))
-aliases_at places.Trace v = option_and_then (get aliases_name) (get type_name v)
-aliases_at places.TraceType v = get aliases_name v
-aliases_at places.FieldTypeAliases v = Some v
-aliases_at _ v = None
+-- the value that a way of names leads to
+abbrev pub at_way : List (List ℕ) → Option Data → Option Data
+at_way [] found = found
+at_way (k ∷ way) found = at_way way (option_and_then (get k) found)
 
 -- the properties, with f of the value of one name, if it is there
 abbrev pub with_property : List ℕ → (Data → Data) → Members → Members
@@ -42,13 +27,14 @@ abbrev pub in_object : Members → Data → Data
 in_object al (object ms) = object al
 in_object al d = d
 
--- a value with these aliases in the place of its own, if it has any
-unfoldable pub with_aliases : Place → Members → Data → Data
-with_aliases places.Root al v = in_property trace_name (in_property type_name (in_property aliases_name (in_object al))) v
-with_aliases places.Trace al v = in_property type_name (in_property aliases_name (in_object al)) v
-with_aliases places.TraceType al v = in_property aliases_name (in_object al) v
-with_aliases places.FieldTypeAliases al v = in_object al v
-with_aliases _ al v = v
+-- the object that a way leads to, with these properties, if there is one
+abbrev pub with_object : List (List ℕ) → Members → Data → Data
+with_object [] al = in_object al
+with_object (k ∷ way) al = in_property k (with_object way al)
+
+-- a configuration with these aliases in the place of its own, if it has any
+unfoldable pub with_aliases : Members → Data → Data
+with_aliases al v = with_object way_to_aliases al v
 
 -- the resolved aliases are the aliases as they are laid
 abbrev pub AreLaid : Members → Members → Type 0

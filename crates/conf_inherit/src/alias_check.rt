@@ -33,6 +33,7 @@ fn names_over(
 
 /// Refuses the first fault of an alias: that it leads into a circle, where it has no outcome, unless a fault of its own
 /// stands before the text that does. `over` has the names of the aliases with an outcome.
+#[tactic(auto, unfolding(crate::specs::AliasFlaws::alias_flaws))]
 fn check_alias(
     alloc: Global,
     name: &str,

@@ -1,7 +1,7 @@
 //! The entries of a members list by their names.
-ghost use Rattle.std.specs.{Prelude.{◌≡◌, ℕ, List, IfOk, IfSome, OnOk, option_map}, List.IsAmong, Option.option_or};
+ghost use Rattle.std.specs.{Prelude.{◌≡◌, ℕ, List, IfOk, IfSome, OnOk, option_map, unwrap_or}, List.IsAmong, Option.option_or};
 ghost use Rattle.serde_json.specs.{Data.Members, View.{view, items_view}};
-ghost use Rattle.conf_inherit.specs.{EntryIndex.{HasPlaces, place_at, place_if, lower, lowest_of, lay_over_found}, Laying.{has_entry, lay_over}};
+ghost use Rattle.conf_inherit.specs.{EntryIndex.{HasPlaces, place_at, place_if, lower, lowest}, Laying.{has_entry, lay_over, lay_over_entry}, Names.properties_of};
 
 use serde_json::Value;
 use std::alloc::{AllocError, Global};
@@ -39,7 +39,7 @@ impl<'a> EntryIndex<'a> {
     /// The first entry with a name that a value has, which is the one that is laid over it.
     pub(crate) fn first_over(&self, value: &Value) -> Option<&Value>
         ensures found { (done : Members) → lay_over done (items_view self.now.entries.now.items) (view value.now)
-            ≡ lay_over_found done (option_map (λ e. view e.now) result) (view value.now) }
+            ≡ unwrap_or (option_map (λ e. lay_over_entry done e (view value.now) (view value.now)) (option_map (λ e. view e.now) result)) (view value.now) }
         ensures among { IfSome result (λ e. IsAmong self.now.entries.now.items e.now) }
     {
         match lowest_place(&self.places, value) {
@@ -68,7 +68,7 @@ fn note<'a>(
 
 /// The lowest place that a name of the value has.
 fn lowest_place(places: &BTreeMap<&str, usize>, value: &Value) -> Option<usize>
-    ensures { result ≡ lowest_of (λ n. place_at places.now n) (view value.now) }
+    ensures { result ≡ lowest (λ n. place_at places.now n) (properties_of (view value.now)) }
 {
     let Value::Object(members) = value else {
         return None;

@@ -1,7 +1,6 @@
 //! Where a value stands in a configuration, as far as inheritance goes: which names and texts have a meaning there.
-ghost use Rattle.std.specs.Prelude.{◌≡◌, option_map};
+ghost use Rattle.std.specs.Prelude.{◌≡◌};
 ghost use Rattle.conf_inherit.specs.FieldPlaces.{field_place, place_in_type, place_under, place_of_items, names_alias, names_member_type, is_base_name, lists_members, lists_extra_members, is_entry, leads_on};
-ghost use Rattle.conf_inherit.specs.Whole.{way_to_aliases};
 
 use conf_table::{Place, under};
 
@@ -127,19 +126,6 @@ pub(crate) fn leads_on(place: Place) -> bool
             | Place::EventType
             | Place::Entry
     )
-}
-
-/// The name of the property of an object that stands here that has the aliases in it, or is their object.
-#[tactic(auto, unfolding(crate::specs::Whole::way_to_aliases, crate::specs::Resolution::trace_name, crate::specs::Resolution::type_name, crate::specs::Resolution::aliases_name))]
-pub(crate) fn way_to_aliases(place: Place) -> Option<&'static str>
-    ensures { option_map (λ name. name.now) result ≡ way_to_aliases place }
-{
-    match place {
-        Place::Root => Some("trace"),
-        Place::Trace => Some("type"),
-        Place::TraceType => Some("$field-type-aliases"),
-        _ => None,
-    }
 }
 
 /// Whether the property `name` of an object that stands here is what the object inherits from.

@@ -117,6 +117,7 @@ fn check_items(known: Known, items: &Vec<Value>, place: Place) -> Result<(), Con
 }
 
 #[cycle(flaws)]
+#[tactic(auto, using(crate::proofs::FaultLemmas::sound_part))]
 fn check_members(
     known: Known,
     members: &Map<String, Value>,

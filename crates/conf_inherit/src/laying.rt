@@ -1,7 +1,7 @@
 //! Lays a value over the resolved value of what it inherits from.
 ghost use Rattle.std.specs.Prelude.{◌≡◌, string_bytes, IfOk, IfErr, OnOk, MatchOption, Option, Some, option_map};
 ghost use Rattle.serde_json.specs.{Data.{Data, object, array, Items, no_items}, View.{view, items_view, members_view}};
-ghost use Rattle.conf_inherit.specs.Laying.{lay, lay_base, lay_members, lay_over, lay_over_entry, lay_new, lay_new_entry, lay_text, resolved, members_below, items_below};
+ghost use Rattle.conf_inherit.specs.Laying.{lay, lay_base, lay_members, lay_over, lay_new, lay_new_entry, lay_text, resolved, members_below, items_below};
 ghost use Rattle.conf_inherit.specs.{Names.{join_items, map_items}, Size.{size, items_size, members_size, Within, Leaves, IsDue}};
 
 use crate::entry_index::EntryIndex;
@@ -201,6 +201,7 @@ fn lay_over_entries(
 
 /// An entry of the base, with the entry of its name over it. `index` finds those of the list.
 #[cycle(laying)]
+#[tactic(auto, using(crate::proofs::LayingLemmas::get_property))]
 fn lay_over(
     alloc: Global,
     own: &Vec<Value>,
@@ -214,34 +215,15 @@ fn lay_over(
         ≡ lay_over (members_view aliases.now.entries) (items_view own.now.items) (view entry)) }
     ensures past { IfErr result (λ stop. IsDue stop limit (size (lay_over (members_view aliases.now.entries) (items_view own.now.items) (view entry)))) }
 {
-    match index.first_over(&entry) {
-        Some(item) => lay_over_entry(alloc, item, entry, aliases, limit),
-        None => Ok(entry),
-    }
-}
-
-/// An entry of the base, with what an item of the list has for its name over it.
-#[cycle(laying)]
-#[tactic(auto, using(crate::proofs::LayingLemmas::get_property))]
-fn lay_over_entry(
-    alloc: Global,
-    item: &Value,
-    entry: Value,
-    aliases: &Map<String, Value>,
-    limit: Option<usize>,
-) -> Result<Value, Stop>
-    ensures laid { IfOk result (λ laid. view laid ≡ lay_over_entry (members_view aliases.now.entries) (view item.now) (view entry) (view entry)) }
-    ensures past { IfErr result (λ stop. IsDue stop limit (size (lay_over_entry (members_view aliases.now.entries) (view item.now) (view entry) (view entry)))) }
-{
-    let Value::Object(members) = item else {
+    let Some(Value::Object(members)) = index.first_over(&entry) else {
         return Ok(entry);
     };
     for (name, value) in members.iter() {
         if entry.get(name.as_str()).is_some() {
-            let mut own = properties_below(alloc, Some(entry));
-            let base = take_property(&mut own, name.as_str());
+            let mut properties = properties_below(alloc, Some(entry));
+            let base = take_property(&mut properties, name.as_str());
             let laid = lay(alloc, Place::Member, value, base, aliases, limit)?;
-            return Ok(only(alloc, own, name, laid)?);
+            return Ok(only(alloc, properties, name, laid)?);
         }
     }
     Ok(entry)

@@ -1,14 +1,12 @@
 //! Resolves the inheritance of a configuration.
-ghost use Rattle.std.specs.Prelude.{◌≡◌, ◌⊎◌, ℕ, None, IfOk, IfErr, true};
+ghost use Rattle.std.specs.Prelude.{◌≡◌, ◌⊎◌, ℕ, Some, None, IfOk, IfErr, true, map};
 ghost use Rattle.conf_tree.specs.{Flaw.{flaw_of, IsMemory}, Reading.Gives};
-ghost use Rattle.conf_inherit.specs.{AliasOutcomes.outcomes_of, Faults.RefusalHolds, Laying.lay, Names.NoClash, Nesting.members_nest};
-ghost use Rattle.conf_inherit.specs.{Rounds.{rounds, no_outcomes}, Spent.Spends, Whole.{holds_aliases, aliases_at, with_aliases, AreLaid}};
-ghost use Rattle.conf_inherit.specs.declared.nesting.TheConstants.{ALIAS_LEVELS};
-ghost use Rattle.conf_inherit.specs.Resolution.{members_or_none, Resolves, in_aliases, if_shallow, resolution_after, resolution};
-ghost use Rattle.serde_json.specs.{Data.{object, Members, no_members}, View.{view, members_view}};
+ghost use Rattle.conf_inherit.specs.{AliasOutcomes.outcomes_of, Whole.{at_way, with_object, with_aliases, AreLaid}, declared.nesting.TheConstants.ALIAS_LEVELS};
+ghost use Rattle.conf_inherit.specs.{Faults.RefusalHolds, Laying.lay, Nesting.members_nest, Rounds.{rounds, no_outcomes}, Spent.Spends};
+ghost use Rattle.conf_inherit.specs.{Names.NoClash, Resolution.{aliases_of, members_or_none, Resolves, in_aliases, if_shallow, resolution_after, resolution}};
+ghost use Rattle.serde_json.specs.{Data.{Members, no_members}, View.{view, members_view}};
 
 use crate::alias_check::check_aliases;
-use crate::field_places::{place_under, way_to_aliases};
 use crate::laying::lay;
 use crate::nesting::{ALIAS_LEVELS, check_nesting};
 use crate::outcomes::{AliasOutcomes, Known};
@@ -21,43 +19,44 @@ use serde_json::{Map, Value};
 use std::alloc::Global;
 use std::mem::replace;
 
-/// Puts these aliases in the place of those of a value, and answers what they were. Where no object stands there,
-/// there were none, and nothing is put.
-#[cycle(replacing)]
+/// Puts these aliases in the place of those of a configuration, and answers what they were. Where no object stands
+/// there, there were none, and nothing is put.
+#[tactic(auto, unfolding(crate::specs::Whole::with_aliases, crate::specs::Resolution::trace_name, crate::specs::Resolution::type_name, crate::specs::Resolution::aliases_name))]
 fn replace_aliases(
     alloc: Global,
-    place: Place,
     value: &mut Value,
     aliases: Map<String, Value>,
 ) -> Map<String, Value>
-    requires above { holds_aliases place ≡ true }
-    ensures old { members_view result.entries ≡ members_or_none (aliases_at place (view value.old)) }
-    ensures new { view value.new ≡ with_aliases place (members_view aliases.entries) (view value.old) }
+    ensures old { members_view result.entries ≡ aliases_of (view value.old) }
+    ensures new { view value.new ≡ with_aliases (members_view aliases.entries) (view value.old) }
 {
-    match value {
-        Value::Object(members) => replace_aliases_under(alloc, place, members, aliases),
-        Value::Null | Value::Bool(_) | Value::Number(_) | Value::String(_) | Value::Array(_) =>
-            Map::new(alloc),
-    }
+    replace_object(
+        alloc,
+        &["trace", "type", "$field-type-aliases"],
+        value,
+        aliases,
+    )
 }
 
-/// Puts them into an object that has aliases in it, or is their object.
-#[cycle(replacing)]
-fn replace_aliases_under(
+/// Puts these properties in the place of those of the object that the way leads to.
+#[cycle(way)]
+fn replace_object(
     alloc: Global,
-    place: Place,
-    members: &mut Map<String, Value>,
-    aliases: Map<String, Value>,
+    way: &[&str],
+    value: &mut Value,
+    properties: Map<String, Value>,
 ) -> Map<String, Value>
-    requires above { holds_aliases place ≡ true }
-    ensures old { members_view result.entries ≡ members_or_none (aliases_at place (object (members_view members.old.entries))) }
-    ensures new { object (members_view members.new.entries) ≡ with_aliases place (members_view aliases.entries) (object (members_view members.old.entries)) }
+    ensures old { members_view result.entries ≡ members_or_none (at_way (map (λ name. name.now) way.now) (Some (view value.old))) }
+    ensures new { view value.new ≡ with_object (map (λ name. name.now) way.now) (members_view properties.entries) (view value.old) }
 {
-    let Some(way) = way_to_aliases(place) else {
-        return replace(members, aliases);
+    let Some(members) = value.as_object_mut() else {
+        return Map::new(alloc);
     };
-    match members.get_mut(way) {
-        Some(value) => replace_aliases(alloc, place_under(place, way), value, aliases),
+    let Some((name, rest)) = way.split_first() else {
+        return replace(members, properties);
+    };
+    match members.get_mut(*name) {
+        Some(inner) => replace_object(alloc, rest, inner, properties),
         None => Map::new(alloc),
     }
 }
@@ -77,17 +76,16 @@ fn in_aliases(alloc: Global, fault: ConfFault) -> ConfFault
 /// The resolved configuration, unless it nests too deep. Each field type in it is within the limits, so none holds
 /// for the whole. `shallow` says that each resolved alias is known to nest at most `ALIAS_LEVELS` levels: what stands
 /// in such ones is not too deep, so the rest alone is asked.
-#[tactic(auto, unfolding(crate::specs::Whole::holds_aliases))]
 fn lay_all(
     alloc: Global,
     value: &Value,
     resolved: Map<String, Value>,
     shallow: bool,
 ) -> Result<Value, ConfFault>
-    requires bare { with_aliases Place.Root no_members (view value.now) ≡ view value.now }
+    requires bare { with_aliases no_members (view value.now) ≡ view value.now }
     requires shallow { shallow ≡ true → members_nest (members_view resolved.entries) ALIAS_LEVELS ≡ true }
     ensures first { (al : Members) → AreLaid (members_view resolved.entries) al
-        → Gives view result (if_shallow (lay (members_view resolved.entries) Place.Root (with_aliases Place.Root al (view value.now)) None)) }
+        → Gives view result (if_shallow (lay (members_view resolved.entries) Place.Root (with_aliases al (view value.now)) None)) }
 {
     let mut laid = match lay(alloc, Place::Root, value, None, &resolved, None) {
         Ok(laid) => laid,
@@ -96,10 +94,10 @@ fn lay_all(
     };
     if shallow {
         check_nesting(alloc, &laid, 32)?;
-        drop(replace_aliases(alloc, Place::Root, &mut laid, resolved));
+        drop(replace_aliases(alloc, &mut laid, resolved));
         return Ok(laid);
     }
-    drop(replace_aliases(alloc, Place::Root, &mut laid, resolved));
+    drop(replace_aliases(alloc, &mut laid, resolved));
     check_nesting(alloc, &laid, 32)?;
     Ok(laid)
 }
@@ -111,10 +109,10 @@ fn resolve_after(
     aliases: &Map<String, Value>,
     outcomes: AliasOutcomes,
 ) -> Result<Value, ConfFault>
-    requires bare { with_aliases Place.Root no_members (view value.now) ≡ view value.now }
+    requires bare { with_aliases no_members (view value.now) ≡ view value.now }
     ensures first { (al : Members) (n : ℕ) → NoClash al → outcomes_of outcomes ≡ rounds al n no_outcomes
         → Spends (members_view outcomes.resolved.entries) al (members_view aliases.now.entries)
-        → Gives view result (resolution_after al (outcomes_of outcomes) (with_aliases Place.Root al (view value.now))) }
+        → Gives view result (resolution_after al (outcomes_of outcomes) (with_aliases al (view value.now))) }
 {
     if let Err(fault) = check_aliases(alloc, aliases, &outcomes) {
         return Err(in_aliases(alloc, fault));
@@ -138,14 +136,13 @@ fn resolve_after(
 /// fault: those of the aliases in byte order of their names, then those of the other places in walk order, and last
 /// the first place in the resolved tree that stands inside 32 objects and lists. It takes as long as the text and what
 /// its field types hold once they are resolved.
-#[tactic(auto, unfolding(crate::specs::Whole::holds_aliases))]
 pub fn resolve(alloc: Global, tree: Tree) -> Result<Tree, ConfFault>
     ensures resolved { IfOk result (λ made. Resolves (view tree.value) (view made.value)) }
     ensures refused { IfErr result (λ fault. IsMemory fault ⊎ RefusalHolds (view tree.value) (flaw_of fault)) }
     ensures first { Gives (λ made. view made.value) result (resolution (view tree.value)) }
 {
     let Tree { mut value } = tree;
-    let mut aliases = replace_aliases(alloc, Place::Root, &mut value, Map::new(alloc));
+    let mut aliases = replace_aliases(alloc, &mut value, Map::new(alloc));
     let outcomes = settle_aliases(alloc, &mut aliases)?;
     let value = resolve_after(alloc, &value, &aliases, outcomes)?;
     Ok(Tree { value })

@@ -1,6 +1,5 @@
-use Rattle.std.proofs.Common.{◌≡◌, Some, ℕ, List, string_bytes, ap, sym, ◌∙◌}
+use Rattle.std.proofs.{Common.{◌≡◌, Some, ℕ, List, string_bytes, ap, sym, ◌∙◌}, lemmas.Map.Text.btree_map_updates_str}
 use Rattle.std.specs.{Map.update, Option.option_or, Str.bytes_eq}
-use Rattle.std.proofs.lemmas.Map.Text.{btree_map_updates_str}
 use Rattle.serde_json.specs.{Data.object, View.{view, members_view}}
 use Rattle.conf_inherit.specs.EntryIndex.{place_at, place_if}
 use Rattle.conf_inherit.proofs.EntryLemmas.{noted}

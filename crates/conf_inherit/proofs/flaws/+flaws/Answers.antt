@@ -2,7 +2,7 @@ use Rattle.std.proofs.{Common.{◌&&◌, ◌++◌, ℕ, List, Err, is_some, Some
 use Rattle.conf_tree.specs.{Flaw.{Flaw, flaw_of, key, within}, Walk.refusal}
 use Rattle.serde_json.specs.{Data.no_members, Find.get_member, View.{view, members_view}}
 use Rattle.conf_inherit.specs.{Flaws.{own_flaws, base_flaws, flaws, inner_flaws, member_flaws}, FieldPlaces.{place_under, is_entry}, SeenNames.seen_names}
-use Rattle.conf_inherit.proofs.FaultLemmas.{refused_first, refused_part, sound_part}
+use Rattle.conf_inherit.proofs.FaultLemmas.{refused_first, refused_part}
 use Rattle.conf_inherit.proofs.flaws.+flaws.Goals as goal
 
 pub check_flaws-returns-in_err-check_itself : goal.check_flaws-returns-in_err-check_itself
@@ -38,15 +38,3 @@ check_members-returns-in-Err t c =
         ]
       ];
     }
-
-pub check_members-loop-name-preserved : goal.check_members-loop-name-preserved
-check_members-loop-name-preserved t c =
-    let al = members_view c.args.known.aliases.now.entries in
-    let known = Some (members_view c.args.known.resolved.now.entries) in
-    let place = c.args.place in
-    let seen = seen_names c.args.seen.now in
-    let name = string_bytes c.in-Some.name.now in
-    let value = view c.in-Some.member.now in
-    let part : List ℕ → List Flaw = λ k. flaws al known (place_under place k) (is_entry place && is_some (get_member k seen)) no_members value ++ base_flaws known place k value in
-    c.loop-name.invariant ∙ ap (λ es. member_flaws al known place seen (members_view es)) c.in-Some.ensures.steps
-    ∙ sound_part (key name) (part name) (member_flaws al known place seen (members_view c.next.new.self)) (ap (λ k. refusal (part k)) (sym c.as_str.ensures.value) ∙ c.in_default.ensures.first)

@@ -1,6 +1,5 @@
-use Rattle.std.proofs.Common.{◌≡◌, ℕ, suc, List, [], ◌∷◌, length, nat_eq, true, refl, sym, ap, ◌∙◌, arith}
+use Rattle.std.proofs.{Common.{◌≡◌, ℕ, suc, List, [], ◌∷◌, length, nat_eq, true, refl, sym, ap, ◌∙◌, arith}, lemmas.Bool.Decides.nat_tests}
 use Rattle.std.specs.Prelude.{not}
-use Rattle.std.proofs.lemmas.Bool.Decides.{nat_tests}
 use Rattle.serde_json.specs.{Data.object, View.{view, members_view}}
 use Rattle.serde_json.proofs.Views.{Entry, view-Object}
 use Rattle.conf_inherit.specs.Flaws.{is_no_entry}

@@ -1,17 +1,15 @@
-use Rattle.std.proofs.Common.{rules, ◌≡◌, ◌+◌, length, None, true, false, string_bytes, [], ◌∷◌, ◌++◌, get_or, ap, sym, ◌∙◌, arith, append-nil, append_assoc, option_map, refl, drop, subst}
-use Rattle.std.proofs.{lemmas.Grind.common_steps, lemmas.List.{at_drop_all, nil_from_length}}
-use Rattle.std.specs.{Vec.Iter.into_iter_items, Result.{IfOk, IfErr}}
-use Rattle.std.proofs.lemmas.Result.{err_from_is_err_and}
-use Rattle.serde_json.specs.{Data.{Data, Items, no_items, item, array, object, member, no_members, put}, View.{view, items_view, members_view}}
+use Rattle.std.proofs.Common.{rules, ◌≡◌, ◌+◌, length, None, true, false, string_bytes, [], ◌∷◌, ◌++◌, get_or, ap, sym, ◌∙◌, arith, append-nil, append_assoc, option_map, unwrap_or, refl, drop, subst}
+use Rattle.std.proofs.{lemmas.Grind.common_steps, lemmas.List.{at_drop_all, nil_from_length}, lemmas.Result.err_from_is_err_and}
+use Rattle.std.specs.Vec.Iter.{into_iter_items}
+use Rattle.serde_json.specs.{Data.{Data, Items, no_items, item, array, object, member, no_members, put}, View.{view, items_view, members_view}, Find.get_member}
 use Rattle.serde_json.proofs.Views.{Entry, view-Array, view-Object}
-use Rattle.serde_json.specs.Find.{get_member}
-use Rattle.conf_table.specs.declared.place.Place.TheVariants as places
-use Rattle.conf_inherit.specs.Laying.{lay, items_below, has_entry, lay_members, lay_over, lay_over_entry, lay_new, lay_new_entry, lay_new_member}
-use Rattle.conf_inherit.specs.{EntryIndex.lay_over_found, Names.{map_items, join_items, NoClash}, FieldPlaces.{place_under, is_base_name, lists_members}}
+use Rattle.conf_inherit.specs.Laying.{lay, items_below, has_entry, lay_members, lay_over, lay_over_entry, lay_over_member, lay_new, lay_new_entry, lay_new_member}
+use Rattle.conf_inherit.specs.{Names.{map_items, join_items, NoClash}, FieldPlaces.{place_under, is_base_name, lists_members}}
 use Rattle.conf_inherit.specs.Size.{size, items_size, Within, IsDue}
 use Rattle.conf_inherit.proofs.LayingLemmas.{join_none, join_pushed, join_appended, new_member_fresh, lay_members-first, lay_members-absent, lay_entries}
 use Rattle.conf_inherit.proofs.RoundLemmas.{apart_of}
 use Rattle.conf_inherit.proofs.SizeLemmas.{IsCounted, counted_none, counted_all, leaves_within, counted_more, counted_past, due_more, over_size, new_size, new_next, property_size, found_among, absent_after}
+use Rattle.conf_table.specs.declared.place.Place.TheVariants as places
 use Rattle.conf_inherit.proofs.laying.+laying.Goals as goal
 
 pub lay_over_entries-returns-clause-laid : goal.lay_over_entries-returns-clause-laid
@@ -142,21 +140,16 @@ lay_properties-returns-in_err-over-clause-past t c =
     rw (p.1, p.2)
     (due_more c.in_err-over.field-0.0 c.args.limit _ _ part (rw (place, found) at c.in_err-over.ensures.past))
 
-pub lay_over-returns-in-Some-clause-laid : goal.lay_over-returns-in-Some-clause-laid
-lay_over-returns-in-Some-clause-laid t c =
+pub lay_over-loop-name-init : goal.lay_over-loop-name-init
+lay_over-loop-name-init t c =
     let done = members_view c.args.aliases.now.entries in
     let b = view c.args.entry in
-    let found : lay_over done (items_view c.args.own.now.items) b ≡ lay_over_entry done (view c.in-Some.item.now) b b
-    = ap (λ v. lay_over done (items_view v.items) b) (sym c.requires) ∙ c.first_over.ensures.found done ∙ ap (λ o. lay_over_found done (option_map (λ e. view e.now) o) b) c.in-Some.is in
-    subst (λ d. IfOk c.lay_over_entry.result (λ laid. view laid ≡ d)) (sym found) c.lay_over_entry.ensures.laid
-
-pub lay_over-returns-in-Some-clause-past : goal.lay_over-returns-in-Some-clause-past
-lay_over-returns-in-Some-clause-past t c =
-    let done = members_view c.args.aliases.now.entries in
-    let b = view c.args.entry in
-    let found : lay_over done (items_view c.args.own.now.items) b ≡ lay_over_entry done (view c.in-Some.item.now) b b
-    = ap (λ v. lay_over done (items_view v.items) b) (sym c.requires) ∙ c.first_over.ensures.found done ∙ ap (λ o. lay_over_found done (option_map (λ e. view e.now) o) b) c.in-Some.is in
-    subst (λ d. IfErr c.lay_over_entry.result (λ stop. IsDue stop c.args.limit (size d))) (sym found) c.lay_over_entry.ensures.past
+    ap (λ v. lay_over done (items_view v.items) b) (sym c.requires)
+    ∙ c.first_over.ensures.found done
+    ∙ ap (λ o. unwrap_or (option_map (λ e. lay_over_entry done e b b) (option_map (λ e. view e.now) o)) b) c.in-Some-Object.is
+    ∙ ap (λ e. lay_over_entry done e b b) (ap view c.in-Some-Object.field-0-is ∙ view-Object c.in-Some-Object.members)
+    ∙ ap (λ m. lay_over_member done (members_view m.entries) b b) (sym c.in-Some-Object.members-is)
+    ∙ ap (λ es. lay_over_member done (members_view es) b b) (sym c.iter-name-items.ensures.rest ∙ sym c.into_iter-name-iterator.ensures.into_iter_gives)
 
 pub lay_over_entries-returns-in_err-laid-clause-past : goal.lay_over_entries-returns-in_err-laid-clause-past
 lay_over_entries-returns-in_err-laid-clause-past t c =

@@ -2,7 +2,7 @@ use Rattle.std.proofs.Common.{◌≡◌, ◌+◌, ◌*◌, drop, length, Option,
 use Rattle.std.specs.Vec.Iter.{into_iter_items, into_iter_len}
 use Rattle.serde_json.specs.{Data.{Data, Items, no_items}, View.{view, items_view, members_view}}
 use Rattle.serde_json.proofs.Views.{Entry}
-use Rattle.conf_inherit.specs.Laying.{lay_base, lay_members, lay_over, lay_over_entry, lay_over_member, lay_new, lay_new_entry, lay_new_member}
+use Rattle.conf_inherit.specs.Laying.{lay_base, lay_members, lay_over, lay_over_member, lay_new, lay_new_entry, lay_new_member}
 use Rattle.conf_inherit.specs.{Names.{join_items, map_items}, Size.items_size}
 use Rattle.conf_inherit.proofs.SizeLemmas.{IsCounted}
 use Rattle.conf_inherit.proofs.laying.+laying.Given as goal
@@ -27,9 +27,6 @@ decreases-lay_over_entries l = 5 * goal.size-lay_over_entries l + 3
 
 abbrev pub decreases-lay_over : goal.decreases-lay_over
 decreases-lay_over l = 5 * goal.size-lay_over l + 2
-
-abbrev pub decreases-lay_over_entry : goal.decreases-lay_over_entry
-decreases-lay_over_entry l = 5 * goal.size-lay_over_entry l
 
 abbrev pub decreases-push_new_entries : goal.decreases-push_new_entries
 decreases-push_new_entries l = 5 * goal.size-push_new_entries l + 2
@@ -57,10 +54,10 @@ invariant-lay_over_entries-loop-entry l = record {
   count : into_iter_len l.entry-iterator ≡ length (into_iter_items l.entry-iterator);
 }
 
--- the properties that are left are laid over the entry as all of them are
-abbrev pub invariant-lay_over_entry-loop-name : goal.invariant-lay_over_entry-loop-name
-invariant-lay_over_entry-loop-name l =
-    lay_over_entry (members_view l.aliases.entries) (view l.item) (view l.entry) (view l.entry) ≡ lay_over_member (members_view l.aliases.entries) (members_view l.name-iterator) (view l.entry) (view l.entry)
+-- the properties that are left are laid over the entry as the whole list is
+abbrev pub invariant-lay_over-loop-name : goal.invariant-lay_over-loop-name
+invariant-lay_over-loop-name l =
+    lay_over (members_view l.aliases.entries) (items_view l.own.items) (view l.entry) ≡ lay_over_member (members_view l.aliases.entries) (members_view l.name-iterator) (view l.entry) (view l.entry)
 
 -- the entries so far, and the new ones of what is left; the room is what the new ones so far leave
 abbrev pub invariant-push_new_entries-loop-item : goal.invariant-push_new_entries-loop-item

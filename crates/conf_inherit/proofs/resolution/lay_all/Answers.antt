@@ -7,12 +7,12 @@ use Rattle.conf_inherit.proofs.PutLemmas.{laid_with, laid_bare, shallow_answer}
 use Rattle.conf_inherit.proofs.resolution.lay_all.Goals as goal
 
 -- what is asked is the resolved aliases in what the rest was laid to
-asked : (done al : Members) (v : Data) {laid : Data} → laid ≡ lay done places.Root v None → AreLaid done al → if_shallow (lay done places.Root (with_aliases places.Root al v) None) ≡ if_shallow (with_aliases places.Root done laid)
-asked done al v is are_laid = ap if_shallow (laid_with done al v are_laid ∙ ap (with_aliases places.Root done) (sym is))
+asked : (done al : Members) (v : Data) {laid : Data} → laid ≡ lay done places.Root v None → AreLaid done al → if_shallow (lay done places.Root (with_aliases al v) None) ≡ if_shallow (with_aliases done laid)
+asked done al v is are_laid = ap if_shallow (laid_with done al v are_laid ∙ ap (with_aliases done) (sym is))
 
 -- it has no aliases of its own
-bare : (done : Members) (v : Data) {laid : Data} → laid ≡ lay done places.Root v None → with_aliases places.Root no_members v ≡ v → with_aliases places.Root no_members laid ≡ laid
-bare done v is h = ap (with_aliases places.Root no_members) is ∙ laid_bare done v h ∙ sym is
+bare : (done : Members) (v : Data) {laid : Data} → laid ≡ lay done places.Root v None → with_aliases no_members v ≡ v → with_aliases no_members laid ≡ laid
+bare done v is h = ap (with_aliases no_members) is ∙ laid_bare done v h ∙ sym is
 
 pub returns-in_err-check_nesting : goal.returns-in_err-check_nesting
 returns-in_err-check_nesting c = record {
@@ -25,7 +25,7 @@ returns-in_err-check_nesting c = record {
       rw (p.1, p.2)
       (elim c.in_err-check_nesting.ensures.first [
         | inl memory ↦ inl memory
-        | inr flawed ↦ inr (asked done al v is are_laid ∙ shallow_answer done laid (c.requires.shallow c.if-shallow.true) (bare done v is c.requires.bare) ∙ ap (λ x. x >>= (λ a. Ok (with_aliases places.Root done laid))) flawed)
+        | inr flawed ↦ inr (asked done al v is are_laid ∙ shallow_answer done laid (c.requires.shallow c.if-shallow.true) (bare done v is c.requires.bare) ∙ ap (λ x. x >>= (λ a. Ok (with_aliases done laid))) flawed)
       ]);
 }
 
@@ -38,7 +38,7 @@ returns-then-shallow c = record {
       let is = c.in-Ok.ensures.laid in
       asked done al v is are_laid
       ∙ shallow_answer done laid (c.requires.shallow c.if-shallow.true) (bare done v is c.requires.bare)
-      ∙ ap (λ x. x >>= (λ a. Ok (with_aliases places.Root done laid))) c.in_ok-check_nesting.ensures.first
+      ∙ ap (λ x. x >>= (λ a. Ok (with_aliases done laid))) c.in_ok-check_nesting.ensures.first
       ∙ ap Ok (sym c.replace_aliases.ensures.new);
 }
 

@@ -3,14 +3,13 @@ use Rattle.std.specs.BTreeMap.{btree_map_len}
 use Rattle.serde_json.specs.{Data.{Data, Members}, Events.members_len, View.{view, members_view}}
 use Rattle.serde_json.proofs.Views.{members_len-members_view}
 use Rattle.conf_tree.specs.Flaw.{flaw_of}
-use Rattle.conf_table.specs.declared.place.Place.TheVariants as places
 use Rattle.conf_inherit.specs.{Names.NoClash, Resolution.{aliases_of, resolution, resolution_after}, Rounds.{Outcomes, rounds, no_outcomes}, Whole.with_aliases}
 use Rattle.conf_inherit.proofs.{RefusalLemmas.refusal_holds, RoundLemmas.{resolution_is, resolution_sound}, SizeLemmas.nests_deep}
-use Rattle.conf_inherit.proofs.{LookedUp.{resolved_ascends, resolved_whole}, TakenLemmas.{back_again, bare_again}}
+use Rattle.conf_inherit.proofs.{LookedUp.resolved_clean, TakenLemmas.{back_again, bare_again}}
 use Rattle.conf_inherit.proofs.resolution.resolve.Goals as goal
 
 -- what the aliases that were taken out come to, with them back in their place
-taken_resolution : (t : Data) (none : Members) {al : Members} {v : Data} {n : ℕ} {st : Outcomes} → al ≡ aliases_of t → v ≡ with_aliases places.Root none t → members_len al ≡ n → st ≡ rounds al n no_outcomes → resolution t ≡ resolution_after al st (with_aliases places.Root al v)
+taken_resolution : (t : Data) (none : Members) {al : Members} {v : Data} {n : ℕ} {st : Outcomes} → al ≡ aliases_of t → v ≡ with_aliases none t → members_len al ≡ n → st ≡ rounds al n no_outcomes → resolution t ≡ resolution_after al st (with_aliases al v)
 taken_resolution t none {al} {v} {n} {st} own taken count settled = resolution_is t al n st own count settled ∙ ap (resolution_after al st) (sym (back_again t al none v own taken))
 
 pub resolve_after-requires : goal.resolve_after-requires
@@ -30,10 +29,11 @@ invariant_of-result c =
     let is = taken_resolution t (members_view c.new.result.entries) c.replace_aliases-aliases.ensures.old c.replace_aliases-aliases.ensures.new (members_len-members_view c.replace_aliases-aliases.result.entries) c.in_ok-outcomes.ensures.settled in
     let al = members_view c.replace_aliases-aliases.result.entries in
     let sound = resolution_sound t (view c.in_ok-value.value) (subst NoClash c.replace_aliases-aliases.ensures.old c.in_ok-outcomes.ensures.apart) (is ∙ c.in_ok-value.ensures.first al (btree_map_len c.replace_aliases-aliases.result) c.in_ok-outcomes.ensures.apart c.in_ok-outcomes.ensures.settled c.in_ok-outcomes.ensures.spent) in
+    let clean = resolved_clean t (view c.in_ok-value.value) (c.args.tree.ordered, c.args.tree.whole) sound.0 in
     record {
       nested = (nests_deep (view c.in_ok-value.value) 32).0 sound.1;
-      whole = resolved_whole t (view c.in_ok-value.value) c.args.tree.whole sound.0;
-      ordered = resolved_ascends t (view c.in_ok-value.value) c.args.tree.ordered sound.0;
+      whole = clean.1;
+      ordered = clean.0;
     }
 
 pub returns-in_err-value-clause-first : goal.returns-in_err-value-clause-first
