@@ -1,10 +1,9 @@
 -- What a text means is metadata that the rules allow: its streams, and all of it.
 use Rattle.std.proofs.Common.{◌≡◌, ℕ, ◌<◌, Bool, true, false, cond, not, ◌||◌, IsTrue, eqb, ltb, List, [], ◌∷◌, map, All, Contains, Some, None, refl, sym, subst, arith, codes, nat_cmp, Less, ◌≤◌, ◌&&◌, length, ap, ◌∙◌}
-use Rattle.tsdl_meaning.proofs.TextWords.{AllByRecursion, Block, ByteString, Denotes, Dyn, Enum, EnvironmentEntry, Event, Int, IsByteType, IsDistinct, IsEvent, IsIdentity, IsMagic, IsMetadata, IsMetadataName, IsStream, IsStruct, IsUnsigned, Item, Known, Labelled, Leaf, MemberType, NamedFact, NumbersRise, Plain, Static, Str, Stream, StructType, Where, at_most_one, bind_some, block_and_semicolon, block_toks, by_number, by_number-rises, bytes_eq, clock_names, context_names, each, environment_in, environment_meaning, eqb-true, event_context, event_header, event_in, event_meaning, events_of, fact_meaning, fields_scope, flat_map, has_member, have_streams, header_meaning, insert_numbered, is_byte, is_flat, is_unsigned, is_unsigned_of, is_uuid, items_toks, known_of, leb-true, list_all, list_any, map_some, mark, named_fact_meaning, named_fact_toks, names_in, nat_cmp_is, nat_le, no_two, not-true, only, option_map, packet_context, packet_header, provided, provided_some, some_same, specific_context, stream_in, stream_meaning, streams_meaning, suits, suits_header, text_meta, text_toks, trace_in, with_events, ◌>>=◌}
+use Rattle.tsdl_meaning.proofs.TextWords.{AllByRecursion, Block, ByteString, Denotes, Dyn, Enum, EnvironmentEntry, Event, Int, IsByteType, IsDistinct, IsEvent, IsIdentity, IsMagic, IsMetadata, IsMetadataName, IsStream, IsStruct, IsUnsigned, Item, Known, Labelled, Leaf, MemberType, NamedFact, NumbersRise, Plain, Static, Str, Stream, StructType, Where, and_true, at_most_one, bind_some, block_and_semicolon, block_toks, by_number, by_number-rises, bytes_eq, clock_names, context_names, each, environment_in, environment_meaning, eqb-true, event_context, event_header, event_in, event_meaning, events_of, fact_meaning, fields_scope, flat_map, has_member, have_streams, header_meaning, insert_numbered, is_byte, is_flat, is_unsigned, is_unsigned_of, is_uuid, items_toks, known_of, leb-true, list_all, list_any, map_some, mark, named_fact_meaning, named_fact_toks, names_in, nat_cmp_is, nat_le, no_two, not-true, only, option_map, packet_context, packet_header, provided, provided_some, some_same, specific_context, stream_in, stream_meaning, streams_meaning, suits, suits_header, text_meta, text_toks, trace_in, with_events, ◌>>=◌}
 use Rattle.std.specs.List.Sorted.{IsStrictlySortedBy}
 use Rattle.std.proofs.lemmas.List.Elements.{All-from_recursion}
 use Rattle.ctf_types.specs.Packets.{own_names}
-use Rattle.tsdl_grammar.proofs.Runs.{and_true}
 use Rattle.tsdl_grammar.proofs.BlockParts.{says_stream, says_event}
 use Rattle.tsdl_meaning.proofs.GoodAtoms.{AreGood, IsGood, all_front, good_atoms}
 use Rattle.tsdl_meaning.proofs.AllowedTypes.{each_keeps, all_spelled, inside, scope_allowed, unsigned, each_has, at_name}
@@ -138,47 +137,30 @@ streams_allowed known bs streams g k e =
 
 -- ---- blocks
 
-block_good : (b : Block) → AreGood (block_and_semicolon b) → AreGood (block_toks b)
-block_good b g = all_front IsGood (block_toks b) (mark marks.Semicolon ∷ []) g
-
 abbrev AllGood : List (List Item) → Type 0
 AllGood iss = AllByRecursion (λ is. AreGood (items_toks is)) iss
-
-traces_good : (bs : List Block) → AllByRecursion (λ b. AreGood (block_and_semicolon b)) bs → AllGood (flat_map trace_in bs)
-traces_good [] g = tt
-traces_good (blocks.Trace is ∷ bs) g = ((block_good (blocks.Trace is) g.0).1, traces_good bs g.1)
-traces_good (blocks.Stream is ∷ bs) g = traces_good bs g.1
-traces_good (blocks.Event is ∷ bs) g = traces_good bs g.1
-traces_good (blocks.Clock is ∷ bs) g = traces_good bs g.1
-traces_good (blocks.Environment fs ∷ bs) g = traces_good bs g.1
-
-streams_good : (bs : List Block) → AllByRecursion (λ b. AreGood (block_and_semicolon b)) bs → AllGood (flat_map stream_in bs)
-streams_good [] g = tt
-streams_good (blocks.Trace is ∷ bs) g = streams_good bs g.1
-streams_good (blocks.Stream is ∷ bs) g = ((block_good (blocks.Stream is) g.0).1, streams_good bs g.1)
-streams_good (blocks.Event is ∷ bs) g = streams_good bs g.1
-streams_good (blocks.Clock is ∷ bs) g = streams_good bs g.1
-streams_good (blocks.Environment fs ∷ bs) g = streams_good bs g.1
-
-events_good : (bs : List Block) → AllByRecursion (λ b. AreGood (block_and_semicolon b)) bs → AllGood (flat_map event_in bs)
-events_good [] g = tt
-events_good (blocks.Trace is ∷ bs) g = events_good bs g.1
-events_good (blocks.Stream is ∷ bs) g = events_good bs g.1
-events_good (blocks.Event is ∷ bs) g = ((block_good (blocks.Event is) g.0).1, events_good bs g.1)
-events_good (blocks.Clock is ∷ bs) g = events_good bs g.1
-events_good (blocks.Environment fs ∷ bs) g = events_good bs g.1
 
 abbrev FactsGood : List NamedFact → Type 0
 FactsGood fs = AllByRecursion (λ f. AreGood (named_fact_toks f)) fs
 
-environments_good : (bs : List Block) → AllByRecursion (λ b. AreGood (block_and_semicolon b)) bs → AllByRecursion FactsGood (flat_map environment_in bs)
-environments_good [] g = tt
-environments_good (blocks.Trace is ∷ bs) g = environments_good bs g.1
-environments_good (blocks.Stream is ∷ bs) g = environments_good bs g.1
-environments_good (blocks.Event is ∷ bs) g = environments_good bs g.1
-environments_good (blocks.Clock is ∷ bs) g = environments_good bs g.1
-environments_good (blocks.Environment fs ∷ bs) g =
-    (all_spelled named_fact_toks fs (inside (flat_map named_fact_toks fs) (block_good (blocks.Environment fs) g.0).1), environments_good bs g.1)
+-- what is looked for in blocks of good atoms
+record BlocksGood (bs : List Block) : Type 0 where
+  traces : AllGood (flat_map trace_in bs)
+  streams : AllGood (flat_map stream_in bs)
+  events : AllGood (flat_map event_in bs)
+  environments : AllByRecursion FactsGood (flat_map environment_in bs)
+
+blocks_good : (bs : List Block) → AllByRecursion (λ b. AreGood (block_and_semicolon b)) bs → BlocksGood bs
+blocks_good [] g = record { traces = tt; streams = tt; events = tt; environments = tt }
+blocks_good (b ∷ bs) g = by b (all_front IsGood (block_toks b) (mark marks.Semicolon ∷ []) g.0) (blocks_good bs g.1)
+  where
+    by : (x : Block) → AreGood (block_toks x) → BlocksGood bs → BlocksGood (x ∷ bs)
+    by (blocks.Trace is) h r = record { traces = (h.1, r.traces); streams = r.streams; events = r.events; environments = r.environments }
+    by (blocks.Stream is) h r = record { traces = r.traces; streams = (h.1, r.streams); events = r.events; environments = r.environments }
+    by (blocks.Event is) h r = record { traces = r.traces; streams = r.streams; events = (h.1, r.events); environments = r.environments }
+    by (blocks.Clock is) h r = record { traces = r.traces; streams = r.streams; events = r.events; environments = r.environments }
+    by (blocks.Environment fs) h r =
+        record { traces = r.traces; streams = r.streams; events = r.events; environments = (all_spelled named_fact_toks fs (inside (flat_map named_fact_toks fs) h.1), r.environments) }
 
 only_good : {A : Type 0} (P : A → Type 0) (xs : List A) (x : A) → AllByRecursion P xs → only xs ≡ Some x → P x
 only_good P [] x g e = absurd cc
@@ -245,11 +227,8 @@ environment_allowed fs es g h =
 
 -- ---- the packet header
 
-eq_of : (m n : ℕ) → eqb m n ≡ true → m ≡ n
-eq_of m n h = eqb-true m n h
-
 magic_of : (m : MemberType) → is_unsigned_of 32 m ≡ true → IsMagic m
-magic_of (Plain (Int t)) h = let both = and_true (not t.signed) (eqb t.size 32) h in (not-true t.signed both.0, eq_of t.size 32 both.1)
+magic_of (Plain (Int t)) h = let both = and_true (not t.signed) (eqb t.size 32) h in (not-true t.signed both.0, eqb-true t.size 32 both.1)
 magic_of (Plain (Enum t)) h = absurd cc
 magic_of (Plain Str) h = absurd cc
 magic_of (Plain (Static e n)) h = absurd cc
@@ -258,7 +237,7 @@ magic_of (Dyn t l) h = absurd cc
 byte_of : (l : Leaf) → is_byte l ≡ true → IsByteType l
 byte_of (Number t) h =
     let a = and_true (not t.signed && eqb t.size 8) (eqb t.align 8) h in let b = and_true (not t.signed) (eqb t.size 8) a.0 in
-    (not-true t.signed b.0, eq_of t.size 8 b.1, eq_of t.align 8 a.1)
+    (not-true t.signed b.0, eqb-true t.size 8 b.1, eqb-true t.align 8 a.1)
 byte_of (Labelled t) h = absurd cc
 byte_of ByteString h = absurd cc
 
@@ -272,7 +251,7 @@ identity_of (Plain (Enum t)) h = absurd cc
 identity_of (Plain Str) h = absurd cc
 identity_of (Plain (Static e n)) h =
     let a = and_true (eqb n 16 && is_flat e.lengths) (is_byte e.leaf) h in let b = and_true (eqb n 16) (is_flat e.lengths) a.0 in
-    (eq_of n 16 b.0, flat_of e.lengths b.1, byte_of e.leaf a.1)
+    (eqb-true n 16 b.0, flat_of e.lengths b.1, byte_of e.leaf a.1)
 identity_of (Dyn t l) h = absurd cc
 
 header_allowed : (known : Known) (trace : List Item) (t : StructType) → AreGood (items_toks trace) → header_meaning known trace ≡ Some t
@@ -286,10 +265,10 @@ pub text_allowed : (bs : List Block) (m : Metadata) → AreGood (text_toks bs) �
 text_allowed bs m g h =
     let says = says_metadata bs m h in
     let known = known_of m.order m.clocks in
-    let good = all_spelled block_and_semicolon bs g in
+    let good = blocks_good bs (all_spelled block_and_semicolon bs g) in
     let a = bind_some (at_most_one (flat_map environment_in bs)) environment_meaning m.environment says.environment in
-    let environment = environment_allowed a.0 m.environment (one_good (flat_map environment_in bs) a.0 (environments_good bs good) a.1) a.2 in
-    let trace_good = only_good (λ (is : List Item). AreGood (items_toks is)) (flat_map trace_in bs) says.trace (traces_good bs good) says.one_trace in
+    let environment = environment_allowed a.0 m.environment (one_good (flat_map environment_in bs) a.0 good.environments a.1) a.2 in
+    let trace_good = only_good (λ (is : List Item). AreGood (items_toks is)) (flat_map trace_in bs) says.trace good.traces says.one_trace in
     let header = header_allowed known says.trace m.header trace_good says.header in
     record {
       environment_names = environment.names;
@@ -300,7 +279,7 @@ text_allowed bs m g h =
       magic = each_has suits_header (λ x. bytes_eq x.0 (codes "magic") ≡ true → IsMagic x.1) (λ x t e. magic_of x.1 (at_name suits_header (codes "magic") x t e)) m.header.members header.1;
       uuid = each_has suits_header (λ x. bytes_eq x.0 (codes "uuid") ≡ true → IsIdentity x.1) (λ x t e. identity_of x.1 (at_name suits_header (codes "uuid") x t e)) m.header.members header.1;
       stream_id = each_has suits_header (λ x. bytes_eq x.0 (codes "stream_id") ≡ true → IsUnsigned x.1) (λ x t e. unsigned x.1 (at_name suits_header (codes "stream_id") x t e)) m.header.members header.1;
-      streams = All-from_recursion (IsStream (clock_names m)) m.streams (streams_allowed known bs m.streams (streams_good bs good) (events_good bs good) says.streams);
+      streams = All-from_recursion (IsStream (clock_names m)) m.streams (streams_allowed known bs m.streams good.streams good.events says.streams);
       stream_numbers_rise = sorted (λ s. s.id) m.streams (streams_stand_by_number known bs m.streams says.streams).0;
     }
 

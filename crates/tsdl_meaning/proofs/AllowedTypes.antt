@@ -1,7 +1,7 @@
 -- Types and structures that a metadata text means are those that the rules allow.
 use Rattle.std.proofs.Common.{◌≡◌, ℕ, suc, ◌-◌, ◌*◌, ◌<◌, ◌≤◌, ◌^◌, ℤ, pos, negsuc, ◌≤ℤ◌, Bool, true, false, cond, ◌&&◌, List, [], ◌∷◌, ◌++◌, length, max, get_or, slice_get, All, Contains, Option, Some, None, refl, sym, ap, subst, ◌∙◌, arith, codes, not, append-nil, append_assoc}
 use Rattle.tsdl_grammar.specs.IntegerMeaning.{clock_in}
-use Rattle.tsdl_meaning.proofs.TextWords.{AllByRecursion, AreMembers, Atom, Attribute, Bracket, ByteString, Chain, Dyn, Entries, Entry, Enum, HasBits, Int, IsCount, IsDistinct, IsField, IsLeaf, IsMappedTo, IsMember, IsMetadataName, IsNest, IsRange, IsStruct, IsUnsigned, Item, Kind, Known, Labelled, Leaf, MemberTree, MemberType, Plain, Scope, Static, Str, StructType, Structure, Value, align_of, align_toks, align_with, are_lengths, arrays_of, attr, bind_some, braced, bracket_toks, bracketed, bytes_eq, bytes_eq-Decides, clock_value, closing_toks, count_of, each, elements_of, encoding_value, entries_of, entries_toks, entry_meaning, entry_toks, enum_meaning, false≢true, field_of, flat_map, has_member, has_only, high_of, high_toks, int_le, int_meaning, int_toks, is_negative, is_unsigned, item_toks, items_toks, kind_meaning, kind_toks, label_toks, leb-true, length_place, list_all, list_any, ltb-true, map_some, mark, member_meaning, member_toks, members_meaning, name_toks, names_in, nat_le, nat_lt, neg_ℤ, next_entry_toks, not-true, number_toks, option_map, optional, or_parts, provided, provided_some, same_words, scope, scope_meaning, scope_toks, scopes_in, sign_toks, signed_of, some_same, struct_meaning, struct_toks, struct_type, structure_of, text_meaning, with_default, word, words_of, ◌>>=◌}
+use Rattle.tsdl_meaning.proofs.TextWords.{AllByRecursion, AreMembers, Atom, Attribute, Bracket, ByteString, Chain, Dyn, Entries, Entry, Enum, HasBits, Int, IsCount, IsDistinct, IsField, IsLeaf, IsMappedTo, IsMember, IsMetadataName, IsNest, IsRange, IsStruct, IsUnsigned, Item, Kind, Known, Labelled, Leaf, MemberTree, MemberType, Plain, Scope, Static, Str, StructType, Structure, Value, align_of, align_toks, align_with, and_true, are_lengths, arrays_of, attr, bind_some, braced, bracket_toks, bracketed, bytes_eq, bytes_eq-Decides, clock_value, closing_toks, count_of, each, elements_of, encoding_value, entries_of, entries_toks, entry_meaning, entry_toks, enum_meaning, false≢true, field_of, flat_map, has_member, has_only, high_of, high_toks, int_le, int_meaning, int_toks, is_negative, is_unsigned, item_toks, items_toks, kind_meaning, kind_toks, label_toks, leb-true, length_place, list_all, list_any, ltb-true, map_some, mark, member_meaning, member_toks, members_meaning, name_toks, names_in, nat_le, nat_lt, neg_ℤ, next_entry_toks, not-true, number_toks, option_map, optional, or_parts, provided, provided_some, same_words, scope, scope_meaning, scope_toks, scopes_in, sign_toks, signed_of, some_same, struct_meaning, struct_toks, struct_type, structure_of, text_meaning, with_default, word, words_of, ◌>>=◌}
 use Rattle.std.proofs.lemmas.Int.{ints}
 use Rattle.std.proofs.lemmas.Float.{T_from_true}
 use Rattle.std.specs.Int.Signed.{le_z_yes}
@@ -24,7 +24,6 @@ use Rattle.tsdl_grammar.specs.declared.tree.Value.TheVariants as values
 use Rattle.tsdl_grammar.specs.declared.tree.Entries.TheVariants as entries
 use Rattle.tsdl_grammar.specs.declared.tree.Kind.TheVariants as kinds
 use Rattle.tsdl_grammar.specs.declared.tree.Bracket.TheVariants as brackets
-use Rattle.tsdl_grammar.proofs.Runs.{and_true}
 use Rattle.tsdl_grammar.proofs.MeaningParts.{says_integer, says_structure}
 use Rattle.tsdl_meaning.proofs.GoodAtoms.{IsGood, AreGood, all_front, all_back}
 use Rattle.tsdl_grammar.specs.declared.tree.Item.TheVariants as items

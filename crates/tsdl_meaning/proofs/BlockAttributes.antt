@@ -1,11 +1,12 @@
 -- The parts of a block where it is judged: its attributes, its scopes, its tables, and numbers that stand twice.
-use Rattle.std.proofs.Common.{◌≡◌, ℕ, ◌+◌, ◌<◌, length, take, get_or, List, [], ◌∷◌, ◌++◌, Some, None, min, refl, sym, ap, ◌∙◌, subst, inl, inr, arith, append_assoc, codes, Result, Bool, true, false, not, ◌&&◌, cond, Option, Bor}
-use Rattle.tsdl_meaning.proofs.TextWords.{AreNoted, Atom, Attribute, Ends, HasClock, HasEvent, HasNumbers, HasStream, IfErr, IsAttribute, IsBegun, IsErrAnd, IsPartOfVersion, IsTwice, IsUnsupported, Item, Name, Scope, ScopeRule, StandsBehind, Stop, StopsIn, StopsWhere, Value, alone, attr, attr_toks, attrs_in, begun, dotted, first_texts, flat_map, item_toks, items_toks, list_all, mark, most, name_toks, name_value, named_rules, natural_value, one_word, rule_in, same_words, scope_toks, stops_after, struct_toks, texts_of, value_toks, word, word_of}
+use Rattle.std.proofs.Common.{◌≡◌, ℕ, ◌+◌, List, [], ◌∷◌, ◌++◌, Some, None, min, refl, sym, ap, ◌∙◌, subst, inl, inr, arith, append_assoc, codes, Result, Bool, true, false, not, ◌&&◌, cond, Option, Bor}
+use Rattle.tsdl_meaning.proofs.TextWords.{AreNoted, Atom, Attribute, Ends, HasClock, HasEvent, HasNumbers, HasStream, IfErr, IsAttribute, IsBegun, IsPartOfVersion, IsTwice, IsUnsupported, Item, Name, Scope, ScopeRule, Stop, StopsIn, StopsWhere, Value, alone, attr, attr_toks, attrs_in, begun, dotted, first_texts, flat_map, list_all, mark, most, name_toks, name_value, named_rules, natural_value, one_word, rule_in, same_words, scope_toks, stops_after, struct_toks, texts_of, value_toks, word, word_of}
 use Rattle.tsdl_grammar.specs.declared.token.Mark.TheVariants as marks
 use Rattle.tsdl_grammar.specs.declared.tree.Value.TheVariants as values
 use Rattle.tsdl_meaning.specs.declared.judge.block.Judging.{Judging}
 use Rattle.tsdl_meaning.proofs.JudgedLedgers.{noted_more}
-use Rattle.tsdl_meaning.proofs.JudgedParts.{ends_more, ends_part, err_from, handed, stops_item}
+use Rattle.tsdl_meaning.proofs.StopsInAttributes.{attr_parts}
+use Rattle.tsdl_meaning.proofs.JudgedParts.{ends_more, ends_part, err_from}
 use Rattle.std.specs.List.{find}
 
 -- ---- the value of an attribute
@@ -17,20 +18,6 @@ alone_toks first (x ∷ xs) w h = absurd (let e : None ≡ Some w = h in cc)
 pub only_word : (n : Name) (w : List ℕ) → one_word n ≡ Some w → name_toks n ≡ word w ∷ []
 only_word n w h = alone_toks n.first n.rest w h
 
-attr_parts : (a : Attribute) (behind : List Atom) → attr_toks a ++ behind ≡ name_toks a.name ++ (mark marks.Equals ∷ (value_toks a.value ++ (mark marks.Semicolon ∷ behind)))
-attr_parts a behind = simp append_assoc
-
--- a name with its mark, and the rest of the attribute
-pub attr_opening : (a : Attribute) (behind : List Atom) → attr_toks a ++ behind ≡ (name_toks a.name ++ (mark marks.Equals ∷ [])) ++ ((value_toks a.value ++ (mark marks.Semicolon ∷ [])) ++ behind)
-attr_opening a behind =
-    let v = value_toks a.value in
-    let closing = mark marks.Semicolon ∷ [] in
-    attr_parts a behind ∙ ap (λ (l : List Atom). name_toks a.name ++ (mark marks.Equals ∷ l)) (sym (append_assoc v closing behind))
-    ∙ sym (append_assoc (name_toks a.name) (mark marks.Equals ∷ []) ((v ++ closing) ++ behind))
-
-pub attr_rest : (a : Attribute) → attr_toks a ≡ name_toks a.name ++ (mark marks.Equals ∷ (value_toks a.value ++ (mark marks.Semicolon ∷ [])))
-attr_rest a = append_assoc (name_toks a.name) (mark marks.Equals ∷ value_toks a.value) (mark marks.Semicolon ∷ [])
-
 -- a stop in the value of an attribute whose name is one word
 pub in_value : (a : Attribute) (w block : List ℕ) (items : List Item) (front behind : List Atom) (at place : ℕ) (stop : Stop) → one_word a.name ≡ Some w → place ≡ min (at + 2) most
     → Ends front (begun block items) → (IsAttribute block w (front ++ word w ∷ mark marks.Equals ∷ []) → (after : List Atom) → StopsIn (front ++ word w ∷ mark marks.Equals ∷ []) place (value_toks a.value ++ after) stop)
@@ -38,7 +25,7 @@ pub in_value : (a : Attribute) (w block : List ℕ) (items : List Item) (front b
 in_value a w block items front behind at place stop one is ends s =
     let opening = word w ∷ mark marks.Equals ∷ [] in
     let parts : attr_toks a ++ behind ≡ opening ++ (value_toks a.value ++ mark marks.Semicolon ∷ behind) =
-    attr_parts a behind ∙ ap (λ (l : List Atom). l ++ (mark marks.Equals ∷ (value_toks a.value ++ (mark marks.Semicolon ∷ behind)))) (only_word a.name w one)
+    attr_parts a behind ∙ ap (λ (l : List Atom). (l ++ mark marks.Equals ∷ []) ++ (value_toks a.value ++ mark marks.Semicolon ∷ behind)) (only_word a.name w one)
     in
     stops_after front (attr_toks a ++ behind) opening (value_toks a.value ++ mark marks.Semicolon ∷ behind) at place stop parts (λ fits. omega (arith, is))
     (s (items, ends_more front (begun block items) opening ends) (mark marks.Semicolon ∷ behind))
@@ -77,17 +64,14 @@ clock_twice v name front h (other, before, named) (items, ends) =
 
 -- ---- scopes
 
-pub scope_parts : (s : Scope) (behind : List Atom) → scope_toks s ++ behind ≡ name_toks s.name ++ (mark marks.Assign ∷ (struct_toks s.structure ++ (mark marks.Semicolon ∷ behind)))
+pub scope_parts : (s : Scope) (behind : List Atom) → scope_toks s ++ behind ≡ name_toks s.name ++ (mark marks.Assign ∷ (struct_toks s.structure ++ mark marks.Semicolon ∷ behind))
 scope_parts s behind =
     let own = mark marks.Assign ∷ struct_toks s.structure in
     append_assoc (name_toks s.name ++ own) (mark marks.Semicolon ∷ []) behind ∙ append_assoc (name_toks s.name) own (mark marks.Semicolon ∷ behind)
 
 -- a name with its mark, and the rest of the scope
-pub scope_opening : (s : Scope) (behind : List Atom) → scope_toks s ++ behind ≡ (name_toks s.name ++ (mark marks.Assign ∷ [])) ++ (struct_toks s.structure ++ (mark marks.Semicolon ∷ behind))
-scope_opening s behind = scope_parts s behind ∙ sym (append_assoc (name_toks s.name) (mark marks.Assign ∷ []) (struct_toks s.structure ++ (mark marks.Semicolon ∷ behind)))
-
-pub scope_rest : (s : Scope) → scope_toks s ≡ name_toks s.name ++ (mark marks.Assign ∷ (struct_toks s.structure ++ (mark marks.Semicolon ∷ [])))
-scope_rest s = append_assoc (name_toks s.name) (mark marks.Assign ∷ struct_toks s.structure) (mark marks.Semicolon ∷ [])
+pub scope_opening : (s : Scope) (behind : List Atom) → scope_toks s ++ behind ≡ (name_toks s.name ++ mark marks.Assign ∷ []) ++ (struct_toks s.structure ++ mark marks.Semicolon ∷ behind)
+scope_opening s behind = scope_parts s behind ∙ sym (append_assoc (name_toks s.name) (mark marks.Assign ∷ []) (struct_toks s.structure ++ mark marks.Semicolon ∷ behind))
 
 -- ---- the tables of a block
 
@@ -132,16 +116,3 @@ event_twice items numbers front ends same (other, before, numbered) =
       same = same;
       here = refl;
     })))))
-
--- a stop in an item of a block that is begun behind the blocks of a ledger
-pub in_item : (judging : Judging) (items : List Item) (i : ℕ) (x : Item) (at next : ℕ) (stop : Stop) (r : Result (Unit {0}) Stop) → i < length items → x ≡ get_or items i x
-    → StandsBehind at (begun (word_of judging.kind) (take i items)) next → IsErrAnd r (λ s. s ≡ stop)
-    → ((front : List Atom) → AreNoted front judging.ledger.now → (after : List Atom) → StopsIn (front ++ begun (word_of judging.kind) (take i items)) next (item_toks x ++ after) stop)
-    → IfErr r (StopsWhere (λ (front : List Atom). AreNoted front judging.ledger.now) at (word (word_of judging.kind) ∷ items_toks items))
-in_item judging items i x at next stop r h is place handed_on s =
-    let w = word_of judging.kind in
-    let toks = word w ∷ items_toks items in
-    handed r stop (StopsWhere (λ (front : List Atom). AreNoted front judging.ledger.now) at toks) handed_on
-    (λ front behind n.
-    stops_item item_toks items i x front (toks ++ behind) (word w ∷ mark marks.OpenBrace ∷ []) (mark marks.CloseBrace ∷ behind) at next stop h is
-    (append_assoc (begun w items) (mark marks.CloseBrace ∷ []) behind) place (s front n))

@@ -7,7 +7,7 @@ use Rattle.std.specs.Global.{Vec}
 
 -- ---- tests
 
-or_false : (a : Bool) → (a || false) ≡ a
+pub or_false : (a : Bool) → (a || false) ≡ a
 or_false true = refl
 or_false false = refl
 

@@ -1,9 +1,9 @@
 -- What blocks without a flaw mean.
 use Rattle.std.proofs.Common.{◌≡◌, ℕ, ◌==◌, Bool, true, false, not, ◌&&◌, ◌||◌, List, [], ◌∷◌, map, Option, Some, None, refl, sym, ap, subst, ◌∙◌, inl, inr, pos}
-use Rattle.tsdl_meaning.proofs.TextWords.{AllByRecursion, AreFlawless, BlockKind, ByteOrder, ClockType, ContainsKey, Event, HasNumbers, IsFlawlessBlock, IsFlawlessScope, Item, Known, Ledger, SaysClock, SaysEvent, SaysStream, Scope, ScopeRule, Stream, StructType, Value, and_from, are_distinct, attr, attr_names, attrs_in, cases_Bool, clock_meaning, clock_name, codes, contains, contains_text, event_context, event_header, event_meaning, fields_scope, fits, flag_value, has_in_context, has_member, has_number, has_parts, has_sizes, header_meaning, is_among, is_fit, is_number, is_some, is_trace, list_all, meant_by, name_value, nat_cmp, natural_value, not-true, number_or_zero, of_clock, of_event, of_stream, of_trace, option_map_or, order_table, packet_context, packet_header, pair_cmp, rule_in, same_words, scopes_in, scopes_of, specific_context, stream_meaning, text_value, trace_order, trace_uuid, uuid_value, whole_value, with_default, word_value, words_of, ◌>>=◌}
+use Rattle.tsdl_meaning.proofs.TextWords.{AllByRecursion, AreFlawless, BlockKind, ByteOrder, ClockType, ContainsKey, Event, HasNumbers, IsFlawlessBlock, IsFlawlessScope, Item, Known, Ledger, SaysClock, SaysEvent, SaysStream, Scope, ScopeRule, Stream, StructType, Value, and_from, and_true, are_distinct, attr, attr_names, attrs_in, cases_Bool, clock_meaning, clock_name, codes, contains, contains_text, event_context, event_header, event_meaning, fields_scope, fits, flag_value, has_in_context, has_member, has_number, has_parts, has_sizes, header_meaning, is_among, is_fit, is_number, is_some, is_trace, list_all, meant_by, name_value, nat_cmp, natural_value, not-true, number_or_zero, of_clock, of_event, of_stream, of_trace, option_map_or, order_table, packet_context, packet_header, pair_cmp, rule_in, same_words, scopes_in, scopes_of, specific_context, stream_meaning, text_value, trace_order, trace_uuid, uuid_value, whole_value, with_default, word_value, words_of, ◌>>=◌}
 use Rattle.tsdl_meaning.specs.declared.judge.block.BlockKind.TheVariants as kinds
 use Rattle.tsdl_meaning.specs.declared.scope_rule.ScopeRule.TheVariants.{AnyMembers, PacketHeader, PacketContext, EventHeader}
-use Rattle.tsdl_meaning.proofs.FlawlessItems.{and_left, and_right, some_is, value_fits, needed_is, default_is, option_is, scope_means, has_alike}
+use Rattle.tsdl_meaning.proofs.FlawlessItems.{passes_of, some_is, there_of, value_fits, needed_is, default_is, option_is, scope_means, has_alike}
 
 -- ---- the parts of a block
 
@@ -67,10 +67,10 @@ trace_means known ledger is f =
     let all = f.parts.attributes in
     let complete = f.ended.complete in
     let there = λ (w : List ℕ). is_some (attr w attrs) in
-    let major = and_left (there (codes "major")) (there (codes "minor") && (there (codes "byte_order") && true)) complete in
-    let rest = and_right (there (codes "major")) (there (codes "minor") && (there (codes "byte_order") && true)) complete in
-    let minor = and_left (there (codes "minor")) (there (codes "byte_order") && true) rest in
-    let order = and_left (there (codes "byte_order")) true (and_right (there (codes "minor")) (there (codes "byte_order") && true) rest) in
+    let major = (and_true (there (codes "major")) (there (codes "minor") && (there (codes "byte_order") && true)) complete).0 in
+    let rest = (and_true (there (codes "major")) (there (codes "minor") && (there (codes "byte_order") && true)) complete).1 in
+    let minor = (and_true (there (codes "minor")) (there (codes "byte_order") && true) rest).0 in
+    let order = (and_true (there (codes "byte_order")) true (and_true (there (codes "minor")) (there (codes "byte_order") && true) rest).1).0 in
     let ordered = needed_is of_trace (λ v. word_value v >>= meant_by order_table) (codes "byte_order") attrs all (λ v h. h) order in
     let identified = option_is of_trace uuid_value (codes "uuid") attrs all (λ v h. h) in
     let headed = scope_means known kinds.Trace packet_header PacketHeader (scopes_in is) f.parts.scopes refl in
@@ -94,22 +94,14 @@ pub record ClockOf (ledger : Ledger) (is : List Item) : Type 0 where
   pub named : clock_name is ≡ Some clock.name
   pub anew : contains_text ledger.clocks clock.name ≡ false
 
-new_name : (o : Option (List ℕ)) (taken : List ℕ → Bool) → option_map_or (λ name. not (taken name)) o false ≡ true → is_some o ≡ true
-new_name None taken e = absurd cc
-new_name (Some w) taken e = refl
-
-is_new : (o : Option (List ℕ)) (taken : List ℕ → Bool) (w : List ℕ) → option_map_or (λ name. not (taken name)) o false ≡ true → o ≡ Some w → taken w ≡ false
-is_new None taken w e f = absurd cc
-is_new (Some x) taken w e f = let same : x ≡ w = cc in subst (λ (y : List ℕ). taken y ≡ false) same (not-true (taken x) e)
-
 pub clock_means : (known : Known) (ledger : Ledger) (is : List Item) → IsFlawlessBlock known kinds.Clock ledger is → ClockOf ledger is
 clock_means known ledger is f =
     let attrs = attrs_in is in
     let all = f.parts.attributes in
     let asked = of_clock ledger in
-    let there = and_left (is_some (attr (codes "name") attrs)) true f.ended.complete in
+    let there = (and_true (is_some (attr (codes "name") attrs)) true f.ended.complete).0 in
     let taken = contains_text ledger.clocks in
-    let name = needed_is asked name_value (codes "name") attrs all (λ v h. new_name (name_value v) taken h) there in
+    let name = needed_is asked name_value (codes "name") attrs all (λ v h. there_of (λ w. not (taken w)) (name_value v) h) there in
     let uuid = option_is asked uuid_value (codes "uuid") attrs all (λ v h. h) in
     let description = option_is asked text_value (codes "description") attrs all (λ v h. h) in
     let frequency = default_is asked natural_value (codes "freq") attrs all (λ v h. h) 1000000000 in
@@ -144,7 +136,7 @@ clock_means known ledger is f =
       clock = clock;
       means = clock_says is clock says;
       named = name.1;
-      anew = is_new (name_value v.0) taken name.0 (value_fits asked (codes "name") attrs v.0 all v.1) value;
+      anew = not-true (taken name.0) (passes_of (λ w. not (taken w)) (name_value v.0) name.0 (value_fits asked (codes "name") attrs v.0 all v.1) value);
     }
 
 -- ---- streams
@@ -155,19 +147,11 @@ pub record StreamOf (known : Known) (ledger : Ledger) (is : List Item) : Type 0 
   pub anew : contains nat_cmp ledger.streams id ≡ false
   pub means : has_sizes is ≡ true → (s : Stream) × (stream_meaning known is ≡ Some s) × (s.id ≡ id)
 
-new_number : (o : Option ℕ) (taken : ℕ → Bool) → option_map_or (λ n. not (taken n)) o false ≡ true → is_some o ≡ true
-new_number None taken e = absurd cc
-new_number (Some n) taken e = refl
-
-is_free : (o : Option ℕ) (taken : ℕ → Bool) (n : ℕ) → option_map_or (λ m. not (taken m)) o false ≡ true → o ≡ Some n → taken n ≡ false
-is_free None taken n e f = absurd cc
-is_free (Some m) taken n e f = let same : m ≡ n = cc in subst (λ (k : ℕ). taken k ≡ false) same (not-true (taken m) e)
-
 -- the number that is given, or 0, is new
 number_free : (taken : ℕ → Bool) (o : Option Value) (n : ℕ) → with_default 0 natural_value o ≡ Some n → (o ≡ None → taken 0 ≡ false)
     → ((v : Value) → o ≡ Some v → option_map_or (λ m. not (taken m)) (natural_value v) false ≡ true) → taken n ≡ false
 number_free taken None n e none some = let zero_is : 0 ≡ n = cc in subst (λ (k : ℕ). taken k ≡ false) zero_is (none refl)
-number_free taken (Some v) n e none some = is_free (natural_value v) taken n (some v refl) e
+number_free taken (Some v) n e none some = not-true (taken n) (passes_of (λ m. not (taken m)) (natural_value v) n (some v refl) e)
 
 pub stream_means : (known : Known) (ledger : Ledger) (is : List Item) → IsFlawlessBlock known kinds.Stream ledger is → StreamOf known ledger is
 stream_means known ledger is f =
@@ -176,7 +160,7 @@ stream_means known ledger is f =
     let all = f.parts.attributes in
     let asked = of_stream ledger in
     let taken = contains nat_cmp ledger.streams in
-    let id = default_is asked natural_value (codes "id") attrs all (λ v h. new_number (natural_value v) taken h) 0 in
+    let id = default_is asked natural_value (codes "id") attrs all (λ v h. there_of (λ n. not (taken n)) (natural_value v) h) 0 in
     let context = scope_means known kinds.Stream packet_context PacketContext scopes f.parts.scopes refl in
     let header = scope_means known kinds.Stream event_header EventHeader scopes f.parts.scopes refl in
     let common = scope_means known kinds.Stream event_context AnyMembers scopes f.parts.scopes refl in
@@ -194,8 +178,8 @@ stream_means known ledger is f =
             common = common.means;
             sizes =
                 and_from (has_member (codes "packet_size") context.meant.members) (has_member (codes "content_size") context.meant.members)
-                (has_alike known packet_context PacketContext scopes (codes "packet_size") context ∙ and_left (has_in_context (codes "packet_size") is) (has_in_context (codes "content_size") is) sizes)
-                (has_alike known packet_context PacketContext scopes (codes "content_size") context ∙ and_right (has_in_context (codes "packet_size") is) (has_in_context (codes "content_size") is) sizes);
+                (has_alike known packet_context PacketContext scopes (codes "packet_size") context ∙ (and_true (has_in_context (codes "packet_size") is) (has_in_context (codes "content_size") is) sizes).0)
+                (has_alike known packet_context PacketContext scopes (codes "content_size") context ∙ (and_true (has_in_context (codes "packet_size") is) (has_in_context (codes "content_size") is) sizes).1);
           } in
           (s, stream_says known is s says refl, refl);
     }
@@ -215,7 +199,7 @@ event_means known ledger is f =
     let attrs = attrs_in is in
     let scopes = scopes_in is in
     let all = f.parts.attributes in
-    let there = and_left (is_some (attr (codes "name") attrs)) true f.ended.complete in
+    let there = (and_true (is_some (attr (codes "name") attrs)) true f.ended.complete).0 in
     let name = needed_is of_event name_value (codes "name") attrs all (λ v h. h) there in
     let id = default_is of_event natural_value (codes "id") attrs all (λ v h. h) 0 in
     let stream = default_is of_event natural_value (codes "stream_id") attrs all (λ v h. h) 0 in

@@ -1,8 +1,10 @@
 -- The entries of an environment: what those without a flaw mean, and names that stand twice.
-use Rattle.std.proofs.Common.{◌≡◌, ℕ, ◌+◌, ◌<◌, ◌≤◌, Bool, true, false, ◌&&◌, List, [], ◌∷◌, ◌++◌, map, length, take, get_or, Option, Some, refl, sym, ap, subst, ◌∙◌, arith, length-append, ◌||◌, inl, inr, append_assoc, bytes_eq}
-use Rattle.tsdl_meaning.proofs.TextWords.{AddsFact, AllByRecursion, Atom, EndsFacts, EnvironmentEntry, Holds, IsTwice, MeanEntries, NamedFact, and_from, bind_is, bind_some, bytes_eq, bytes_eq-Decides, cases_Bool, each, environment_meaning, fact_meaning, fact_toks, flat_map, list_any, map-append, mark, named_fact_meaning, named_fact_toks, nat_le, nat_list_eq_equiv, no_two, option_map, or_parts, provided, some_same, take_more, word, ◌>>=◌}
+use Rattle.std.proofs.Common.{◌≡◌, ℕ, ◌+◌, ◌≤◌, Bool, true, false, ◌&&◌, List, [], ◌∷◌, ◌++◌, map, length, Option, Some, refl, sym, ap, ◌∙◌, arith, length-append, inl, bytes_eq}
+use Rattle.tsdl_meaning.proofs.TextWords.{AddsFact, AllByRecursion, Atom, EndsFacts, EnvironmentEntry, IsTwice, MeanEntries, Name, NamedFact, and_from, bind_is, bind_some, bytes_eq, bytes_eq-Decides, each, environment_meaning, fact_meaning, fact_toks, flat_map, list_any, map-append, mark, named_fact_meaning, named_fact_toks, nat_le, nat_list_eq_equiv, no_two, option_map, or_parts, provided, some_same, word, ◌>>=◌}
 use Rattle.std.proofs.lemmas.Bool.Decides.{nat_tests}
+use Rattle.tsdl_meaning.proofs.Fronts.{any_mapped}
 use Rattle.tsdl_meaning.proofs.FlawlessItems.{no_two_more, some_is}
+use Rattle.tsdl_meaning.proofs.JudgedParts.{holds_among, holds_part, item_there}
 use Rattle.tsdl_grammar.specs.declared.token.Mark.TheVariants as marks
 
 -- what is made of one more item
@@ -28,7 +30,7 @@ apart : (w : List ℕ) (words : List (List ℕ)) → list_any (bytes_eq w) words
 apart w [] e = tt
 apart w (x ∷ words) e = (nat_list_eq_equiv.symm x w ∙ (or_parts (bytes_eq w x) (list_any (bytes_eq w) words) e).0, apart w words (or_parts (bytes_eq w x) (list_any (bytes_eq w) words) e).1)
 
-fact_more : (facts : List NamedFact) (fact : NamedFact) → Facts facts → AddsFact facts fact → Facts (facts ++ fact ∷ [])
+pub fact_more : (facts : List NamedFact) (fact : NamedFact) → Facts facts → AddsFact facts fact → Facts (facts ++ fact ∷ [])
 fact_more facts fact s adds =
     let n = length-append facts (fact ∷ []) in
     let below = adds.few in
@@ -43,10 +45,6 @@ fact_more facts fact s adds =
       mean = each_more named_fact_meaning facts s.entries fact entry s.mean (ap (option_map (λ v. record { name = fact.name; value = v })) value.1);
     }
 
-pub next_fact : (facts : List NamedFact) (i : ℕ) (fact : NamedFact) → i < length facts → fact ≡ get_or facts i fact → Facts (take i facts) → AddsFact (take i facts) fact → Facts (take (i + 1) facts)
-next_fact facts i fact h is s adds =
-    subst Facts (sym (take_more facts i fact h ∙ ap (λ (f : NamedFact). take i facts ++ f ∷ []) (sym is))) (fact_more (take i facts) fact s adds)
-
 pub no_facts : Facts []
 no_facts = record { few = omega arith; once = refl; entries = []; mean = refl }
 
@@ -58,30 +56,19 @@ facts_mean facts s =
     let both : (nat_le (length facts) 256 && no_two bytes_eq (map (λ f. f.name) facts)) ≡ true = and_from (nat_le (length facts) 256) (no_two bytes_eq (map (λ f. f.name) facts)) few s.once in
     (s.entries, ap (λ (b : Bool). provided b (each named_fact_meaning facts)) both ∙ s.mean)
 
--- an entry that has a name stands among the others
-fact_among : (w : List ℕ) (facts : List NamedFact) → list_any (bytes_eq w) (map (λ f. f.name) facts) ≡ true → Holds (flat_map named_fact_toks facts) (word w ∷ mark marks.Equals ∷ [])
-fact_among w [] h = absurd (let e : false ≡ true = h in cc)
-fact_among w (f ∷ fs) h = elim (cases_Bool (bytes_eq w f.name)) [
-  | inl e ↦
-      let same : w ≡ f.name = (bytes_eq-Decides w f.name).0 e in
-      subst (λ (n : List ℕ). Holds (flat_map named_fact_toks (f ∷ fs)) (word n ∷ mark marks.Equals ∷ [])) (sym same)
-      ([], (fact_toks f.fact ++ mark marks.Semicolon ∷ []) ++ flat_map named_fact_toks fs, refl)
-  | inr e ↦
-      let others : Holds (flat_map named_fact_toks fs) (word w ∷ mark marks.Equals ∷ []) = fact_among w fs (ap (λ (b : Bool). b || list_any (bytes_eq w) (map (λ f. f.name) fs)) (sym e) ∙ h) in (
-        named_fact_toks f ++ others.0,
-        others.1,
-        ap (λ (l : List Atom). named_fact_toks f ++ l) others.2 ∙ sym (append_assoc (named_fact_toks f) others.0 ((word w ∷ mark marks.Equals ∷ []) ++ others.1)),
-      )
-]
-
+-- an entry of a name that another has
 pub fact_twice : (w : List ℕ) (facts : List NamedFact) (front : List Atom) → list_any (bytes_eq w) (map (λ f. f.name) facts) ≡ true → EndsFacts facts front
     → IsTwice front (word w ∷ mark marks.Equals ∷ [])
-fact_twice w facts front h (others, e) =
-    let among = fact_among w facts h in
-    let here : Holds front (word w ∷ mark marks.Equals ∷ []) = (
-      others ++ mark marks.OpenBrace ∷ among.0,
-      among.1,
-      e ∙ ap (λ (l : List Atom). others ++ mark marks.OpenBrace ∷ l) among.2 ∙ sym (append_assoc others (mark marks.OpenBrace ∷ among.0) ((word w ∷ mark marks.Equals ∷ []) ++ among.1)),
-    )
-    in
-    inl (record { name = record { first = w; rest = [] }; other = record { first = w; rest = [] }; behind = marks.Equals; same = refl; before = here; here = refl })
+fact_twice w facts front h ends =
+    let found = item_there named_fact_toks (λ f. bytes_eq w f.name) facts (sym (any_mapped (bytes_eq w) (λ f. f.name) facts) ∙ h) in
+    let f = found.0 in
+    let other : Name = record { first = f.name; rest = [] } in
+    let held = holds_among front (mark marks.OpenBrace ∷ []) (flat_map named_fact_toks facts) (named_fact_toks f) ends found.2 in
+    inl (record {
+      name = record { first = w; rest = [] };
+      other = other;
+      behind = marks.Equals;
+      same = ap (λ (n : List ℕ). n ++ []) (sym ((bytes_eq-Decides w f.name).0 found.1));
+      before = holds_part front (named_fact_toks f) (word f.name ∷ mark marks.Equals ∷ []) held ([], fact_toks f.fact ++ mark marks.Semicolon ∷ [], refl);
+      here = refl;
+    })

@@ -1,8 +1,8 @@
 -- Names, attributes and scopes without a flaw, one behind the other, and what is looked up among them.
-use Rattle.std.proofs.Common.{◌≡◌, ℕ, Bool, true, false, not, cond, ◌&&◌, ◌||◌, List, [], ◌∷◌, ◌++◌, refl, ap, ap₂, ◌∙◌, inl, inr, Option, Some, None, sym, subst, map, append_assoc, ◌+◌, ◌<◌, length, take, get_or}
-use Rattle.tsdl_meaning.proofs.TextWords.{AddsAttribute, AddsName, AddsScope, AllByRecursion, AreFlawless, Asked, Attribute, BTreeSet, BlockKind, Global, IsFlawlessScope, Item, Known, Ledger, MemberTree, MemberType, Name, Scope, ScopeRule, String, StructType, Structure, Value, alone, and_from, append-nil, are_distinct, asked_of, attr, attr_in, attr_names, attrs_in, bind_is, bind_some, bytes_eq, bytes_eq-Decides, cases_Bool, contains_text, eqb-true, fits, fits_word, flat_map, has_member, is_fit, is_some, is_word, list_all, list_any, ltb-true, map-append, member_names, members_meaning, names_in, no_two, not-true, not_from_false, one_word, option_map, optional, provided, rule_in, same_words, scope, scope_in, scope_meaning, scope_names, scopes_in, scopes_of, some_same, struct_meaning, struct_type, structure_of, suits_rule, take_more, with_default, with_dot, words_of, written, ◌>>=◌}
+use Rattle.std.proofs.Common.{◌≡◌, ℕ, Bool, true, false, not, ◌&&◌, ◌||◌, List, [], ◌∷◌, ◌++◌, refl, ap, ap₂, ◌∙◌, inl, inr, Option, Some, None, sym, subst, map, append_assoc, ◌+◌}
+use Rattle.tsdl_meaning.proofs.TextWords.{AddsAttribute, AddsName, AddsScope, AllByRecursion, AreFlawless, Asked, Attribute, BTreeSet, BlockKind, Global, HasNames, IsFlawlessScope, Item, Known, Ledger, MemberTree, MemberType, Name, Scope, ScopeRule, String, StructType, Structure, Value, alone, and_from, and_true, append-nil, are_distinct, asked_of, attr, attr_in, attrs_in, bind_is, bind_some, bytes_eq, bytes_eq-Decides, cases_Bool, eqb-true, false≢true, fits, fits_word, flat_map, has_member, is_fit, is_some, is_word, list_all, list_any, ltb-true, map-append, member_names, members_meaning, names_in, no_two, not-true, not_from_false, one_word, option_map, option_map_or, optional, or_parts, provided, rule_in, same_words, scope, scope_in, scope_meaning, scopes_in, scopes_of, some_same, struct_meaning, struct_type, structure_of, suits_rule, with_default, with_dot, words_of, written, ◌>>=◌}
 use Rattle.std.proofs.lemmas.List.Concat.{flat_map-append}
-use Rattle.tsdl_meaning.proofs.DistinctKeys.{any_behind}
+use Rattle.tsdl_meaning.proofs.DistinctKeys.{any_behind, one_name}
 use Rattle.tsdl_grammar.proofs.TypeParts.{struct_type-own}
 use Rattle.tsdl_grammar.proofs.MeaningParts.{says_structure}
 use Rattle.tsdl_meaning.specs.FlawlessStructures.{IsFlawless}
@@ -10,14 +10,6 @@ use Rattle.std.proofs.lemmas.List.Folds.{list_all-append}
 use Rattle.tsdl_grammar.specs.declared.tree.Item.TheVariants as items
 
 -- ---- tests
-
-pub and_left : (a b : Bool) → (a && b) ≡ true → a ≡ true
-and_left true b e = refl
-and_left false b e = absurd cc
-
-pub and_right : (a b : Bool) → (a && b) ≡ true → b ≡ true
-and_right true b e = e
-and_right false b e = absurd cc
 
 or_none : (a b : Bool) → a ≡ false → b ≡ false → (a || b) ≡ false
 or_none true b e f = absurd cc
@@ -36,14 +28,17 @@ all_weaker P Q (x ∷ xs) f all = (f x all.0, all_weaker P Q xs f all.1)
 pub flat_more : {A B : Type 0} (f : A → List B) (xs : List A) (x : A) → flat_map f (xs ++ x ∷ []) ≡ flat_map f xs ++ f x
 flat_more {A} {B} f xs x = flat_map-append f xs (x ∷ []) ∙ ap (λ (l : List B). flat_map f xs ++ l) (append-nil (f x))
 
+pub all_one_more : {A : Type 0} (f : A → Bool) (xs : List A) (x : A) → list_all f xs ≡ true → f x ≡ true → list_all f (xs ++ x ∷ []) ≡ true
+all_one_more f xs x all one = list_all-append f xs (x ∷ []) ∙ and_from (list_all f xs) (f x && true) all (and_from (f x) true one refl)
+
 -- one more item that is none of the others
 pub no_two_more : {A : Type 0} (same : A → A → Bool) (xs : List A) (x : A) → AllByRecursion (λ y. same y x ≡ false) xs → no_two same xs ≡ true → no_two same (xs ++ x ∷ []) ≡ true
 no_two_more same [] x others d = refl
 no_two_more same (y ∷ ys) x others d =
-    let none = not-true (list_any (same y) ys) (and_left (not (list_any (same y) ys)) (no_two same ys) d) in
+    let none = not-true (list_any (same y) ys) (and_true (not (list_any (same y) ys)) (no_two same ys) d).0 in
     and_from (not (list_any (same y) (ys ++ x ∷ []))) (no_two same (ys ++ x ∷ []))
     (not_from_false (list_any (same y) (ys ++ x ∷ [])) (any_behind (same y) ys x ∙ or_none (list_any (same y) ys) (same y x) none others.0))
-    (no_two_more same ys x others.1 (and_right (not (list_any (same y) ys)) (no_two same ys) d))
+    (no_two_more same ys x others.1 (and_true (not (list_any (same y) ys)) (no_two same ys) d).1)
 
 -- ---- names as they are written
 
@@ -52,41 +47,42 @@ same_words-is [] [] e = refl
 same_words-is [] (y ∷ ys) e = absurd cc
 same_words-is (x ∷ xs) [] e = absurd cc
 same_words-is (x ∷ xs) (y ∷ ys) e =
-    ap₂ (λ (w : List ℕ) (ws : List (List ℕ)). w ∷ ws) ((bytes_eq-Decides x y).0 (and_left (bytes_eq x y) (same_words xs ys) e)) (same_words-is xs ys (and_right (bytes_eq x y) (same_words xs ys) e))
+    ap₂ (λ (w : List ℕ) (ws : List (List ℕ)). w ∷ ws) ((bytes_eq-Decides x y).0 (and_true (bytes_eq x y) (same_words xs ys) e).0) (same_words-is xs ys (and_true (bytes_eq x y) (same_words xs ys) e).1)
 
 abbrev pub written_words : List (List ℕ) → List ℕ
 written_words [] = []
 written_words (w ∷ ws) = w ++ flat_map with_dot ws
 
--- all these names are in the set
-abbrev pub HasAll : BTreeSet (String Global) → List (List (List ℕ)) → Type 0
-HasAll names all = AllByRecursion (λ n. contains_text names (written_words n) ≡ true) all
-
-other_words : (names : BTreeSet (String Global)) (m n : List (List ℕ)) → contains_text names (written_words n) ≡ false → contains_text names (written_words m) ≡ true → same_words m n ≡ false
-other_words names m n fresh there =
-    elim (cases_Bool (same_words m n)) [
-      | inr e ↦ e
-      | inl e ↦ absurd (let same : contains_text names (written_words m) ≡ contains_text names (written_words n) = ap (λ (ws : List (List ℕ)). contains_text names (written_words ws)) (same_words-is m n e) in cc)
+-- a name that is written otherwise has other words
+other_words : (m n : Name) → bytes_eq (written n) (written m) ≡ false → same_words (words_of m) (words_of n) ≡ false
+other_words m n e =
+    elim (cases_Bool (same_words (words_of m) (words_of n))) [
+      | inr f ↦ f
+      | inl t ↦ (let same : written n ≡ written m = ap written_words (sym (same_words-is (words_of m) (words_of n) t)) in absurd (false≢true (sym e ∙ (bytes_eq-Decides (written n) (written m)).1 same)))
     ]
 
-still : (names : BTreeSet (String Global)) (b : Bool) (w : List ℕ) → contains_text names w ≡ true → cond b true (contains_text names w) ≡ true
-still names true w e = refl
-still names false w e = e
+module _ {A : Type 0} (named : A → Name) where
+  -- no two of the names are the same, and the set has them as they are written
+  pub record Once (names : BTreeSet (String Global)) (all : List A) : Type 0 where
+    pub once : are_distinct (map (λ x. words_of (named x)) all) ≡ true
+    pub kept : HasNames names (map (λ x. written (named x)) all)
 
--- one more name
-pub names_more : (before after : BTreeSet (String Global)) (all : List (List (List ℕ))) (name : Name) → AddsName before name after → HasAll before all → HasAll after (all ++ words_of name ∷ [])
-names_more before after all name a has =
-    let same : bytes_eq (written name) (written name) ≡ true = (bytes_eq-Decides (written name) (written name)).1 refl in
-    all_more (λ n. contains_text after (written_words n) ≡ true) all (words_of name)
-    (all_weaker (λ n. contains_text before (written_words n) ≡ true) (λ n. contains_text after (written_words n) ≡ true) all
-    (λ n e. a.kept (written_words n) ∙ still before (bytes_eq (written name) (written_words n)) (written_words n) e) has)
-    (a.kept (written name) ∙ ap (λ (b : Bool). cond b true (contains_text before (written name))) same)
+  others : (n : Name) (all : List A) → list_any (bytes_eq (written n)) (map (λ x. written (named x)) all) ≡ false
+      → AllByRecursion (λ ws. same_words ws (words_of n) ≡ false) (map (λ x. words_of (named x)) all)
+  others n [] e = tt
+  others n (x ∷ all) e =
+      let both = or_parts (bytes_eq (written n) (written (named x))) (list_any (bytes_eq (written n)) (map (λ y. written (named y)) all)) e in
+      (other_words (named x) n both.0, others n all both.1)
 
-pub distinct_more : (before after : BTreeSet (String Global)) (all : List (List (List ℕ))) (name : Name) → AddsName before name after → HasAll before all → are_distinct all ≡ true
-    → are_distinct (all ++ words_of name ∷ []) ≡ true
-distinct_more before after all name a has d =
-    no_two_more same_words all (words_of name)
-    (all_weaker (λ n. contains_text before (written_words n) ≡ true) (λ n. same_words n (words_of name) ≡ false) all (λ n e. other_words before n (words_of name) a.fresh e) has) d
+  once_more : (before after : BTreeSet (String Global)) (all : List A) (x : A) → Once before all → AddsName before (named x) after → Once after (all ++ x ∷ [])
+  once_more before after all x s a = record {
+    once =
+        ap are_distinct (map-append (λ y. words_of (named y)) all (x ∷ []))
+        ∙ no_two_more same_words (map (λ y. words_of (named y)) all) (words_of (named x)) (others (named x) all (sym (s.kept (written (named x))) ∙ a.fresh)) s.once;
+    kept =
+        one_name before after (map (λ y. written (named y)) all) (map (λ y. written (named y)) (all ++ x ∷ [])) (written (named x)) (map-append (λ y. written (named y)) all (x ∷ [])) s.kept
+        a.kept;
+  }
 
 -- ---- values of attributes
 
@@ -94,11 +90,20 @@ pub some_is : {A : Type 0} (o : Option A) → is_some o ≡ true → (x : A) × 
 some_is (Some x) e = (x, refl)
 some_is None e = absurd cc
 
+-- where a test passes of what is there, something is there that passes it
+pub passes_of : {A : Type 0} (P : A → Bool) (o : Option A) (x : A) → option_map_or P o false ≡ true → o ≡ Some x → P x ≡ true
+passes_of P None x e f = absurd cc
+passes_of P (Some y) x e f = let same : y ≡ x = cc in ap P (sym same) ∙ e
+
+pub there_of : {A : Type 0} (P : A → Bool) (o : Option A) → option_map_or P o false ≡ true → is_some o ≡ true
+there_of P None e = absurd cc
+there_of P (Some x) e = refl
+
 -- ---- one word
 
 alone_is : (first : List ℕ) (rest : List (List ℕ)) (w : List ℕ) → is_word w (record { first = first; rest = rest }) ≡ true → alone first rest ≡ Some w
-alone_is first [] w e = ap (λ (x : List ℕ). Some x) ((bytes_eq-Decides first w).0 (and_left (bytes_eq first w) true e))
-alone_is first (x ∷ rest) w e = absurd (let f : false ≡ true = and_right (bytes_eq first w) false e in cc)
+alone_is first [] w e = ap (λ (x : List ℕ). Some x) ((bytes_eq-Decides first w).0 (and_true (bytes_eq first w) true e).0)
+alone_is first (x ∷ rest) w e = absurd (let f : false ≡ true = (and_true (bytes_eq first w) false e).1 in cc)
 
 word_is : (w : List ℕ) (n : Name) → is_word w n ≡ true → one_word n ≡ Some w
 word_is w n e = alone_is n.first n.rest w e
@@ -111,12 +116,12 @@ value_fits asked w (a ∷ attrs) v h e =
       | inl t ↦
           let found : Some a.value ≡ Some v = sym (rw t refl) ∙ e in
           let same : a.value ≡ v = cc in
-          let fit : is_fit asked a ≡ true = and_left (is_fit asked a) (list_all (is_fit asked) attrs) h in
+          let fit : is_fit asked a ≡ true = (and_true (is_fit asked a) (list_all (is_fit asked) attrs) h).0 in
           let by_word : fits_word asked (Some w) a.value ≡ true = ap (λ (o : Option (List ℕ)). fits_word asked o a.value) (sym (word_is w a.name t)) ∙ fit in
           subst (λ (x : Value). fits asked w x ≡ true) same by_word
       | inr f ↦
           let later : attr w attrs ≡ Some v = sym (rw f refl) ∙ e in
-          value_fits asked w attrs v (and_right (is_fit asked a) (list_all (is_fit asked) attrs) h) later
+          value_fits asked w attrs v (and_true (is_fit asked a) (list_all (is_fit asked) attrs) h).1 later
     ]
 
 -- ---- what is needed, has a default, or may be left out
@@ -146,7 +151,7 @@ module _ {A : Type 0} (asked : Asked) (f : Value → Option A) (w : List ℕ) (a
 
 -- ---- the names of members
 
-named_alike : (known : Known) (before : List (List ℕ × MemberType)) (trees : List MemberTree) (members : List (List ℕ × MemberType)) → members_meaning known before trees ≡ Some members
+pub named_alike : (known : Known) (before : List (List ℕ × MemberType)) (trees : List MemberTree) (members : List (List ℕ × MemberType)) → members_meaning known before trees ≡ Some members
     → names_in members ≡ names_in before ++ map (λ t. t.name) trees
 unfolding members_meaning
 named_alike known before [] members e = ap names_in (some_same members before (Some before) e refl) ∙ sym (append-nil (names_in before))
@@ -156,7 +161,7 @@ named_alike known before (t ∷ trees) members e =
     ∙ ap (λ (l : List (List ℕ)). l ++ map (λ x. x.name) trees) (map-append (λ m. m.0) before ((t.name, a.0) ∷ []))
     ∙ append_assoc (names_in before) (t.name ∷ []) (map (λ x. x.name) trees)
 
-member_there : (w : List ℕ) (members : List (List ℕ × MemberType)) → has_member w members ≡ list_any (bytes_eq w) (names_in members)
+pub member_there : (w : List ℕ) (members : List (List ℕ × MemberType)) → has_member w members ≡ list_any (bytes_eq w) (names_in members)
 member_there w [] = refl
 member_there w (m ∷ ms) = ap (λ (b : Bool). bytes_eq w m.0 || b) (member_there w ms)
 
@@ -220,65 +225,48 @@ has_alike known n rule scopes w m = member_there w m.meant.members ∙ ap (list_
 
 -- ---- items
 
--- attributes without a flaw, and the names so far
-pub record Attributes (kind : BlockKind) (ledger : Ledger) (names : BTreeSet (String Global)) (all : List Attribute) : Type 0 where
-  pub fit : list_all (is_fit (asked_of kind ledger)) all ≡ true
-  pub once : are_distinct (attr_names all) ≡ true
-  pub kept : HasAll names (attr_names all)
+-- attributes that have what they are asked for, none of them twice, and their names
+pub record Attributes (asked : Asked) (names : BTreeSet (String Global)) (all : List Attribute) : Type 0 where
+  pub fit : list_all (is_fit asked) all ≡ true
+  pub named : Once (λ (a : Attribute). a.name) names all
 
 -- and scopes
 pub record Scopes (known : Known) (kind : BlockKind) (names : BTreeSet (String Global)) (all : List Scope) : Type 0 where
   pub flawless : AllByRecursion (IsFlawlessScope known kind) all
-  pub once : are_distinct (scope_names all) ≡ true
-  pub kept : HasAll names (scope_names all)
+  pub named : Once (λ (s : Scope). s.name) names all
 
-attribute_more : (kind : BlockKind) (ledger : Ledger) (before after : BTreeSet (String Global)) (all : List Attribute) (a : Attribute) → Attributes kind ledger before all
-    → AddsAttribute kind ledger before a after → Attributes kind ledger after (all ++ a ∷ [])
-attribute_more kind ledger before after all a s adds =
-    let names : attr_names (all ++ a ∷ []) ≡ attr_names all ++ words_of a.name ∷ [] = map-append (λ x. words_of x.name) all (a ∷ []) in
-    let asked = asked_of kind ledger in
-    record {
-      fit = list_all-append (is_fit asked) all (a ∷ []) ∙ and_from (list_all (is_fit asked) all) (is_fit asked a && true) s.fit (and_from (is_fit asked a) true adds.fit refl);
-      once = ap are_distinct names ∙ distinct_more before after (attr_names all) a.name adds.name s.kept s.once;
-      kept = subst (HasAll after) (sym names) (names_more before after (attr_names all) a.name adds.name s.kept);
-    }
-
-scope_more : (known : Known) (kind : BlockKind) (before after : BTreeSet (String Global)) (all : List Scope) (x : Scope) → Scopes known kind before all → AddsScope known kind before x after
-    → Scopes known kind after (all ++ x ∷ [])
-scope_more known kind before after all x s adds =
-    let names : scope_names (all ++ x ∷ []) ≡ scope_names all ++ words_of x.name ∷ [] = map-append (λ y. words_of y.name) all (x ∷ []) in
-    record {
-      flawless = all_more (IsFlawlessScope known kind) all x s.flawless adds.flawless;
-      once = ap are_distinct names ∙ distinct_more before after (scope_names all) x.name adds.name s.kept s.once;
-      kept = subst (HasAll after) (sym names) (names_more before after (scope_names all) x.name adds.name s.kept);
-    }
+pub attribute_more : (asked : Asked) (before after : BTreeSet (String Global)) (all : List Attribute) (a : Attribute) → Attributes asked before all → AddsAttribute asked before a after
+    → Attributes asked after (all ++ a ∷ [])
+attribute_more asked before after all a s adds = record { fit = all_one_more (is_fit asked) all a s.fit adds.fit; named = once_more (λ x. x.name) before after all a s.named adds.name }
 
 -- the items so far
 pub record Items (known : Known) (kind : BlockKind) (ledger : Ledger) (is : List Item) (named scoped : BTreeSet (String Global)) : Type 0 where
-  pub attributes : Attributes kind ledger named (attrs_in is)
+  pub attributes : Attributes (asked_of kind ledger) named (attrs_in is)
   pub scopes : Scopes known kind scoped (scopes_in is)
 
-module _ (known : Known) (kind : BlockKind) (ledger : Ledger) (is : List Item) (n : ℕ) (i : Item) (named scoped : BTreeSet (String Global)) (h : n < length is) (e : i ≡ get_or is n i) (s : Items known kind ledger (take n is) named scoped) where
-  next_is : (x : Item) → i ≡ x → take (n + 1) is ≡ take n is ++ x ∷ []
-  next_is x same = take_more is n i h ∙ ap (λ (y : Item). take n is ++ y ∷ []) (sym e ∙ same)
+module _ (known : Known) (kind : BlockKind) (ledger : Ledger) (is : List Item) (named scoped after : BTreeSet (String Global)) (s : Items known kind ledger is named scoped) where
+  pub with_attribute : (a : Attribute) → AddsAttribute (asked_of kind ledger) named a after → Items known kind ledger (is ++ items.Attribute a ∷ []) after scoped
+  with_attribute a adds = record {
+    attributes = subst (Attributes (asked_of kind ledger) after) (sym (flat_more attr_in is (items.Attribute a))) (attribute_more (asked_of kind ledger) named after (attrs_in is) a s.attributes adds);
+    scopes = subst (Scopes known kind scoped) (sym (flat_more scope_in is (items.Attribute a) ∙ append-nil (scopes_in is))) s.scopes;
+  }
 
-  pub next_attribute : (a : Attribute) (after : BTreeSet (String Global)) → i ≡ items.Attribute a → AddsAttribute kind ledger named a after → Items known kind ledger (take (n + 1) is) after scoped
-  next_attribute a after same adds = subst (λ (l : List Item). Items known kind ledger l after scoped) (sym (next_is (items.Attribute a) same)) (record {
-    attributes =
-        subst (Attributes kind ledger after) (sym (flat_more attr_in (take n is) (items.Attribute a))) (attribute_more kind ledger named after (attrs_in (take n is)) a s.attributes adds);
-    scopes = subst (Scopes known kind scoped) (sym (flat_more scope_in (take n is) (items.Attribute a) ∙ append-nil (scopes_in (take n is)))) s.scopes;
-  })
+  pub with_scope : (x : Scope) → AddsScope known kind scoped x after → Items known kind ledger (is ++ items.Scope x ∷ []) named after
+  with_scope x adds = record {
+    attributes = subst (Attributes (asked_of kind ledger) named) (sym (flat_more attr_in is (items.Scope x) ∙ append-nil (attrs_in is))) s.attributes;
+    scopes = subst (Scopes known kind after) (sym (flat_more scope_in is (items.Scope x))) (record {
+      flawless = all_more (IsFlawlessScope known kind) (scopes_in is) x s.scopes.flawless adds.flawless;
+      named = once_more (λ y. y.name) scoped after (scopes_in is) x s.scopes.named adds.name;
+    });
+  }
 
-  pub next_scope : (x : Scope) (after : BTreeSet (String Global)) → i ≡ items.Scope x → AddsScope known kind scoped x after → Items known kind ledger (take (n + 1) is) named after
-  next_scope x after same adds = subst (λ (l : List Item). Items known kind ledger l named after) (sym (next_is (items.Scope x) same)) (record {
-    attributes = subst (Attributes kind ledger named) (sym (flat_more attr_in (take n is) (items.Scope x) ∙ append-nil (attrs_in (take n is)))) s.attributes;
-    scopes = subst (Scopes known kind after) (sym (flat_more scope_in (take n is) (items.Scope x))) (scope_more known kind scoped after (scopes_in (take n is)) x s.scopes adds);
-  })
-
-pub no_items : (known : Known) (kind : BlockKind) (ledger : Ledger) (named scoped : BTreeSet (String Global)) → Items known kind ledger [] named scoped
-no_items known kind ledger named scoped = record { attributes = record { fit = refl; once = refl; kept = tt }; scopes = record { flawless = tt; once = refl; kept = tt } }
+pub no_items : (known : Known) (kind : BlockKind) (ledger : Ledger) (named scoped : BTreeSet (String Global)) → HasNames named [] → HasNames scoped [] → Items known kind ledger [] named scoped
+no_items known kind ledger named scoped n s = record {
+  attributes = record { fit = refl; named = record { once = refl; kept = n } };
+  scopes = record { flawless = tt; named = record { once = refl; kept = s } };
+}
 
 pub items_flawless : (known : Known) (kind : BlockKind) (ledger : Ledger) (is : List Item) (named scoped : BTreeSet (String Global)) → Items known kind ledger is named scoped
     → AreFlawless known kind ledger is
 items_flawless known kind ledger is named scoped s =
-    record { attributes = s.attributes.fit; attributes_once = s.attributes.once; scopes = s.scopes.flawless; scopes_once = s.scopes.once }
+    record { attributes = s.attributes.fit; attributes_once = s.attributes.named.once; scopes = s.scopes.flawless; scopes_once = s.scopes.named.once }

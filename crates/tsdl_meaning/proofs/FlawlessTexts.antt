@@ -1,6 +1,6 @@
 -- Blocks without a flaw, one behind the other, and the metadata that they mean.
-use Rattle.std.proofs.Common.{◌≡◌, ℕ, ◌+◌, ◌<◌, ◌==◌, Bool, true, false, not, cond, ◌&&◌, ◌||◌, List, [], ◌∷◌, ◌++◌, map, length, take, get_or, Contains, Option, Some, None, refl, sym, ap, ap₂, subst, ◌∙◌, inl, inr, arith}
-use Rattle.tsdl_meaning.proofs.TextWords.{AddsBlock, AddsClock, AddsStream, AllByRecursion, BTreeMap, BTreeSet, Block, ClockType, ContainsKey, EnvironmentEntry, Event, Global, HaveStreams, IsEmpty, IsFlawlessBehind, Item, Known, LacksSizes, Ledger, MeanEntries, NamedFact, SaysMetadata, Stream, String, Surveys, and_from, append-nil, at_most_one, bind_is, by_number, bytes_eq, bytes_eq-Decides, cases_Bool, clock_meaning, contains, contains_text, each, environment_in, environment_meaning, eqb-true, event_in, event_meaning, events_of, flat_map, has_sizes, have_streams, header_meaning, list_all, list_any, map-append, nat_cmp, no_two, not-true, not_from_false, only, or_left, or_parts, or_right, pair_cmp, provided, stream_in, stream_meaning, streams_meaning, take_more, text_meta, trace_in, with_events, ◌>>=◌}
+use Rattle.std.proofs.Common.{◌≡◌, ℕ, ◌+◌, ◌==◌, Bool, true, false, not, cond, ◌&&◌, ◌||◌, List, [], ◌∷◌, ◌++◌, Contains, Option, Some, None, refl, sym, ap, ap₂, subst, ◌∙◌, inl, inr, arith}
+use Rattle.tsdl_meaning.proofs.TextWords.{AddsBlock, AddsClock, AddsStream, AllByRecursion, BTreeMap, BTreeSet, Block, ClockType, ContainsKey, EnvironmentEntry, Event, Global, HaveStreams, IsEmpty, IsFlawlessBehind, Item, Known, LacksSizes, Ledger, MeanEntries, NamedFact, SaysMetadata, Stream, String, Surveys, and_from, and_true, append-nil, at_most_one, bind_is, by_number, bytes_eq, bytes_eq-Decides, cases_Bool, clock_meaning, contains, contains_text, each, environment_in, environment_meaning, eqb-true, event_in, event_meaning, events_of, flat_map, has_sizes, have_streams, header_meaning, list_all, list_any, nat_cmp, no_two, not-true, not_from_false, only, or_left, or_parts, or_right, pair_cmp, provided, stream_in, stream_meaning, streams_meaning, text_meta, trace_in, with_events, ◌>>=◌}
 use Rattle.std.proofs.lemmas.Bool.Decides.{nat_tests}
 use Rattle.std.proofs.lemmas.List.Folds.{list_all-append, list_any-append}
 use Rattle.ctf_types.specs.declared.Metadata.{Metadata}
@@ -8,19 +8,37 @@ use Rattle.tsdl_grammar.specs.declared.tree.Block.TheVariants as blocks
 use Rattle.tsdl_grammar.specs.Denotes.{clock_in}
 use Rattle.tsdl_grammar.proofs.MeaningParts.{text_says}
 use Rattle.tsdl_meaning.specs.FlawlessTexts.{AddsEvent}
+use Rattle.tsdl_meaning.proofs.DistinctKeys.{no_two_seen}
 use Rattle.tsdl_meaning.proofs.MemberNames.{contains_first, contains_later}
-use Rattle.tsdl_meaning.proofs.FlawlessItems.{and_left, and_right, all_more, all_weaker, flat_more, no_two_more}
+use Rattle.tsdl_meaning.proofs.FlawlessItems.{all_more, all_weaker, flat_more, no_two_more}
 use Rattle.tsdl_meaning.proofs.FlawlessFacts.{each_more, no_facts, facts_mean}
 use Rattle.tsdl_meaning.proofs.FlawlessBlocks.{TraceOf, ClockOf, StreamOf, EventOf, trace_means, clock_means, stream_means, event_means}
 use Rattle.tsdl_meaning.proofs.NumberOrder.{numbers_order}
 
+module _ {A B : Type 0} (f : A → Option B) (same : B → B → Bool) where
+  -- what these mean, no two of them the same, and each is noted
+  pub record Collected (IsNoted : B → Type 0) (all : List A) : Type 0 where
+    pub made : List B
+    pub mean : each f all ≡ Some made
+    pub once : no_two same made ≡ true
+    pub noted : AllByRecursion IsNoted made
+
+  collected_more : (WasNoted IsNoted : B → Type 0) (all : List A) (x : A) (y : B) → Collected WasNoted all → f x ≡ Some y → ((z : B) → WasNoted z → same z y ≡ false) → ((z : B) → WasNoted z → IsNoted z) → IsNoted y
+      → Collected IsNoted (all ++ x ∷ [])
+  collected_more WasNoted IsNoted all x y s means other stays new = record {
+    made = s.made ++ y ∷ [];
+    mean = each_more f all s.made x y s.mean means;
+    once = no_two_more same s.made y (all_weaker WasNoted (λ z. same z y ≡ false) s.made other s.noted) s.once;
+    noted = all_more IsNoted s.made y (all_weaker WasNoted IsNoted s.made stays s.noted) new;
+  }
+
 -- ---- clocks
 
-pub record Clocks (names : BTreeSet (String Global)) (all : List (List Item)) : Type 0 where
-  pub made : List ClockType
-  pub mean : each clock_meaning all ≡ Some made
-  pub once : no_two bytes_eq (map (λ c. c.name) made) ≡ true
-  pub noted : AllByRecursion (λ w. contains_text names w ≡ true) (map (λ c. c.name) made)
+abbrev pub same_name : ClockType → ClockType → Bool
+same_name c d = bytes_eq c.name d.name
+
+abbrev pub Clocks : BTreeSet (String Global) → List (List Item) → Type 0
+Clocks names all = Collected clock_meaning same_name (λ c. contains_text names c.name ≡ true) all
 
 other_than : {A : Type 0} (there : A → Bool) (same : A → A → Bool) → ((x y : A) → same x y ≡ true → x ≡ y) → (x y : A) → there x ≡ true → there y ≡ false → same x y ≡ false
 other_than there same is x y old fresh =
@@ -35,60 +53,44 @@ still false c e = e
 
 clock_more : (ledger after : Ledger) (all : List (List Item)) (is : List Item) → ClockOf ledger is → Clocks ledger.clocks all → (adds : AddsClock ledger is after) → Clocks adds.clocks (all ++ is ∷ [])
 clock_more ledger after all is c s adds =
-    let names = map (λ (x : ClockType). x.name) s.made in
-    let more : map (λ (x : ClockType). x.name) (s.made ++ c.clock ∷ []) ≡ names ++ c.clock.name ∷ [] = map-append (λ x. x.name) s.made (c.clock ∷ []) in
     let added = adds.added c.clock.name c.named in
-    record {
-      made = s.made ++ c.clock ∷ [];
-      mean = each_more clock_meaning all s.made is c.clock s.mean c.means;
-      once =
-          ap (no_two bytes_eq) more
-          ∙ no_two_more bytes_eq names c.clock.name
-          (all_weaker (λ w. contains_text ledger.clocks w ≡ true) (λ w. bytes_eq w c.clock.name ≡ false) names (λ w there. other_than (contains_text ledger.clocks) bytes_eq (λ x y. (bytes_eq-Decides x y).0) w c.clock.name there c.anew) s.noted) s.once;
-      noted =
-          subst (AllByRecursion (λ w. contains_text adds.clocks w ≡ true)) (sym more)
-          (all_more (λ w. contains_text adds.clocks w ≡ true) names c.clock.name
-          (all_weaker (λ w. contains_text ledger.clocks w ≡ true) (λ w. contains_text adds.clocks w ≡ true) names (λ w there. added w ∙ still (bytes_eq c.clock.name w) (contains_text ledger.clocks w) there) s.noted)
-          (added c.clock.name ∙ ap (λ (b : Bool). cond b true (contains_text ledger.clocks c.clock.name)) ((bytes_eq-Decides c.clock.name c.clock.name).1 refl)));
-    }
+    collected_more clock_meaning same_name (λ x. contains_text ledger.clocks x.name ≡ true) (λ x. contains_text adds.clocks x.name ≡ true) all is c.clock s c.means
+    (λ x there. other_than (contains_text ledger.clocks) bytes_eq (λ v w. (bytes_eq-Decides v w).0) x.name c.clock.name there c.anew)
+    (λ x there. added x.name ∙ still (bytes_eq c.clock.name x.name) (contains_text ledger.clocks x.name) there)
+    (added c.clock.name ∙ ap (λ (b : Bool). cond b true (contains_text ledger.clocks c.clock.name)) ((bytes_eq-Decides c.clock.name c.clock.name).1 refl))
 
 -- ---- streams
 
+abbrev pub same_id : Stream → Stream → Bool
+same_id s t = s.id == t.id
+
 pub record Streams (known : Known) (numbers : BTreeSet ℕ) (all : List (List Item)) : Type 0 where
-  pub made : List Stream
-  pub mean : each (stream_meaning known) all ≡ Some made
-  pub once : no_two (λ s t. s.id == t.id) made ≡ true
-  pub noted : AllByRecursion (λ s. contains nat_cmp numbers s.id ≡ true) made
-  pub there : (n : ℕ) → contains nat_cmp numbers n ≡ true → list_any (λ s. s.id == n) made ≡ true
+  pub found : Collected (stream_meaning known) same_id (λ s. contains nat_cmp numbers s.id ≡ true) all
+  pub there : (n : ℕ) → contains nat_cmp numbers n ≡ true → list_any (λ s. s.id == n) found.made ≡ true
 
 same_number : (n : ℕ) → (n == n) ≡ true
 same_number n = grind (arith, nat_tests)
 
 stream_more : (known : Known) (ledger after : Ledger) (all : List (List Item)) (is : List Item) → StreamOf known ledger is → (adds : AddsStream ledger is after)
     → (list_all has_sizes all ≡ true → Streams known ledger.streams all) → list_all has_sizes (all ++ is ∷ []) ≡ true → Streams known adds.streams (all ++ is ∷ [])
+unfolding collected_more
 stream_more known ledger after all is o adds before sized =
     let both : (list_all has_sizes all && (has_sizes is && true)) ≡ true = sym (list_all-append has_sizes all (is ∷ [])) ∙ sized in
-    let s = before (and_left (list_all has_sizes all) (has_sizes is && true) both) in
-    let one = o.means (and_left (has_sizes is) true (and_right (list_all has_sizes all) (has_sizes is && true) both)) in
+    let s = before (and_true (list_all has_sizes all) (has_sizes is && true) both).0 in
+    let one = o.means (and_true (has_sizes is) true (and_true (list_all has_sizes all) (has_sizes is && true) both).1).0 in
     let stream = one.0 in
     let added = adds.added o.id o.numbered in
     record {
-      made = s.made ++ stream ∷ [];
-      mean = each_more (stream_meaning known) all s.made is stream s.mean one.1;
-      once =
-          no_two_more (λ x y. x.id == y.id) s.made stream
-          (all_weaker (λ x. contains nat_cmp ledger.streams x.id ≡ true) (λ x. (x.id == stream.id) ≡ false) s.made
-          (λ x there. other_than (contains nat_cmp ledger.streams) (λ m n. m == n) eqb-true x.id stream.id there (ap (contains nat_cmp ledger.streams) one.2 ∙ o.anew)) s.noted) s.once;
-      noted =
-          all_more (λ x. contains nat_cmp adds.streams x.id ≡ true) s.made stream
-          (all_weaker (λ x. contains nat_cmp ledger.streams x.id ≡ true) (λ x. contains nat_cmp adds.streams x.id ≡ true) s.made (λ x there. (added x.id).1 (inr there)) s.noted)
-          ((added stream.id).1 (inl one.2));
+      found =
+          collected_more (stream_meaning known) same_id (λ x. contains nat_cmp ledger.streams x.id ≡ true) (λ x. contains nat_cmp adds.streams x.id ≡ true) all is stream s.found one.1
+          (λ x there. other_than (contains nat_cmp ledger.streams) (λ m n. m == n) eqb-true x.id stream.id there (ap (contains nat_cmp ledger.streams) one.2 ∙ o.anew))
+          (λ x there. (added x.id).1 (inr there)) ((added stream.id).1 (inl one.2));
       there = λ n h.
-          list_any-append (λ x. x.id == n) s.made (stream ∷ [])
+          list_any-append (λ x. x.id == n) s.found.made (stream ∷ [])
           ∙ elim ((added n).0 h) [
-            | inl e ↦ or_right (list_any (λ x. x.id == n) s.made) ((stream.id == n) || false)
+            | inl e ↦ or_right (list_any (λ x. x.id == n) s.found.made) ((stream.id == n) || false)
                 (or_left (stream.id == n) false (ap (λ (m : ℕ). stream.id == m) (e ∙ sym one.2) ∙ same_number stream.id))
-            | inr old ↦ or_left (list_any (λ x. x.id == n) s.made) ((stream.id == n) || false) (s.there n old)
+            | inr old ↦ or_left (list_any (λ x. x.id == n) s.found.made) ((stream.id == n) || false) (s.there n old)
           ];
     }
 
@@ -98,19 +100,16 @@ stream_more known ledger after all is o adds before sized =
 abbrev pub same_key : ℕ × Event → ℕ × Event → Bool
 same_key e f = (e.0 == f.0) && (e.1.id == f.1.id)
 
-pub record Events (known : Known) (keys : BTreeMap (ℕ × ℕ) (String Global)) (all : List (List Item)) : Type 0 where
-  pub made : List (ℕ × Event)
-  pub mean : each (event_meaning known) all ≡ Some made
-  pub once : no_two same_key made ≡ true
-  pub noted : AllByRecursion (λ e. ContainsKey pair_cmp keys (e.0, e.1.id)) made
+abbrev pub Events : Known → BTreeMap (ℕ × ℕ) (String Global) → List (List Item) → Type 0
+Events known keys all = Collected (event_meaning known) same_key (λ e. ContainsKey pair_cmp keys (e.0, e.1.id)) all
 
 other_key : (keys : BTreeMap (ℕ × ℕ) (String Global)) (e f : ℕ × Event) → ContainsKey pair_cmp keys (e.0, e.1.id) → (ContainsKey pair_cmp keys (f.0, f.1.id) → ⊥) → same_key e f ≡ false
 other_key keys e f there fresh =
     elim (cases_Bool (same_key e f)) [
       | inr h ↦ h
       | inl h ↦
-          let streams = eqb-true e.0 f.0 (and_left (e.0 == f.0) (e.1.id == f.1.id) h) in
-          let ids = eqb-true e.1.id f.1.id (and_right (e.0 == f.0) (e.1.id == f.1.id) h) in
+          let streams = eqb-true e.0 f.0 (and_true (e.0 == f.0) (e.1.id == f.1.id) h).0 in
+          let ids = eqb-true e.1.id f.1.id (and_true (e.0 == f.0) (e.1.id == f.1.id) h).1 in
           absurd (fresh (subst (λ (k : ℕ × ℕ). ContainsKey pair_cmp keys k) (ap₂ (λ (m n : ℕ). (m, n)) streams ids) there))
     ]
 
@@ -119,17 +118,8 @@ event_more : (known : Known) (ledger after : Ledger) (all : List (List Item)) (i
 event_more known ledger after all is o s adds =
     let one : ℕ × Event = (o.stream, o.event) in
     let added = adds.added o.event.name o.stream o.event.id o.named o.numbers in
-    record {
-      made = s.made ++ one ∷ [];
-      mean = each_more (event_meaning known) all s.made is one s.mean o.means;
-      once =
-          no_two_more same_key s.made one
-          (all_weaker (λ e. ContainsKey pair_cmp ledger.events (e.0, e.1.id)) (λ e. same_key e one ≡ false) s.made (λ e there. other_key ledger.events e one there o.anew) s.noted) s.once;
-      noted =
-          all_more (λ e. ContainsKey pair_cmp adds.events (e.0, e.1.id)) s.made one
-          (all_weaker (λ e. ContainsKey pair_cmp ledger.events (e.0, e.1.id)) (λ e. ContainsKey pair_cmp adds.events (e.0, e.1.id)) s.made (λ e there. added.1 (e.0, e.1.id) there) s.noted)
-          added.0;
-    }
+    collected_more (event_meaning known) same_key (λ e. ContainsKey pair_cmp ledger.events (e.0, e.1.id)) (λ e. ContainsKey pair_cmp adds.events (e.0, e.1.id)) all is one s o.means
+    (λ e there. other_key ledger.events e one there o.anew) (λ e there. added.1 (e.0, e.1.id) there) added.0
 
 -- ---- blocks
 
@@ -184,11 +174,6 @@ pub block_more : (known : Known) (ledger after : Ledger) (bs : List Block) (b : 
 block_more known ledger after bs b s f adds =
     rw (flat_more trace_in bs b, flat_more stream_in bs b, flat_more event_in bs b, flat_more clock_in bs b, flat_more environment_in bs b) (next known ledger after bs b s f adds)
 
-pub next_block : (known : Known) (ledger after : Ledger) (bs : List Block) (i : ℕ) (b : Block) → i < length bs → b ≡ get_or bs i b → Text known ledger (take i bs) → IsFlawlessBehind known ledger b
-    → AddsBlock ledger b after → Text known after (take (i + 1) bs)
-next_block known ledger after bs i b h is s f adds =
-    subst (Text known after) (sym (take_more bs i b h ∙ ap (λ (x : Block). take i bs ++ x ∷ []) (sym is))) (block_more known ledger after (take i bs) b s f adds)
-
 pub no_blocks : (known : Known) (ledger : Ledger) → IsEmpty ledger → Text known ledger []
 no_blocks known ledger e = record {
   trace_seen = subst (λ (b : Bool). IsSeen {A = List Item} b []) (sym e.trace) refl;
@@ -196,7 +181,7 @@ no_blocks known ledger e = record {
   environment_seen = subst (λ (b : Bool). IsSeen {A = List NamedFact} b []) (sym e.environment) refl;
   environment = tt;
   clocks_mean = record { made = []; mean = refl; once = refl; noted = tt };
-  streams_mean = λ sized. record { made = []; mean = refl; once = refl; noted = tt; there = λ n h. absurd (let none = e.streams n in cc) };
+  streams_mean = λ sized. record { found = record { made = []; mean = refl; once = refl; noted = tt }; there = λ n h. absurd (let none = e.streams n in cc) };
   events_mean = record { made = []; mean = refl; once = refl; noted = tt };
 }
 
@@ -217,8 +202,8 @@ none_of id e (f ∷ es) is none =
 own_once : (id : ℕ) (es : List (ℕ × Event)) → no_two same_key es ≡ true → no_two (λ x y. x.id == y.id) (events_of id es) ≡ true
 own_once id [] d = refl
 own_once id (e ∷ es) d =
-    let none = not-true (list_any (same_key e) es) (and_left (not (list_any (same_key e) es)) (no_two same_key es) d) in
-    let rest = own_once id es (and_right (not (list_any (same_key e) es)) (no_two same_key es) d) in
+    let none = not-true (list_any (same_key e) es) (and_true (not (list_any (same_key e) es)) (no_two same_key es) d).0 in
+    let rest = own_once id es (and_true (not (list_any (same_key e) es)) (no_two same_key es) d).1 in
     elim (cases_Bool (e.0 == id)) [
       | inl t ↦ rw t
           (and_from (not (list_any (λ x. e.1.id == x.id) (events_of id es))) (no_two (λ x y. x.id == y.id) (events_of id es))
@@ -247,7 +232,7 @@ streams_are : (known : Known) (ledger : Ledger) (bs : List Block) → Streams kn
     → (ss : List Stream) × (streams_meaning known bs ≡ Some ss)
 unfolding streams_meaning
 streams_are known ledger bs s e have =
-    let ordered = numbers_order (λ x. x.id) s.made s.once in
+    let ordered = numbers_order (λ x. x.id) s.found.made s.found.once in
     let streams = ordered.items in
     let all : have_streams streams e.made ≡ true =
     all_true (λ x. list_any (λ t. t.id == x.0) streams) (λ x. ContainsKey pair_cmp ledger.events (x.0, x.1.id)) e.made
@@ -255,8 +240,8 @@ streams_are known ledger bs s e have =
     in
     let made = each_is (with_events e.made) streams (has_events e.made e.once) in (
       made.0,
-      bind_is (each (stream_meaning known) (flat_map stream_in bs)) (λ found. by_number (λ x. x.id) found >>= λ ss. each (event_meaning known) (flat_map event_in bs) >>= λ events. provided (have_streams ss events) (each (with_events events) ss)) s.made made.0 s.mean
-          (bind_is (by_number (λ x. x.id) s.made) (λ ss. each (event_meaning known) (flat_map event_in bs) >>= λ events. provided (have_streams ss events) (each (with_events events) ss)) streams made.0 ordered.is
+      bind_is (each (stream_meaning known) (flat_map stream_in bs)) (λ found. by_number (λ x. x.id) found >>= λ ss. each (event_meaning known) (flat_map event_in bs) >>= λ events. provided (have_streams ss events) (each (with_events events) ss)) s.found.made made.0 s.found.mean
+          (bind_is (by_number (λ x. x.id) s.found.made) (λ ss. each (event_meaning known) (flat_map event_in bs) >>= λ events. provided (have_streams ss events) (each (with_events events) ss)) streams made.0 ordered.is
           (bind_is (each (event_meaning known) (flat_map event_in bs)) (λ events. provided (have_streams streams events) (each (with_events events) streams)) e.made made.0 e.mean
           (ap (λ (b : Bool). provided b (each (with_events e.made) streams)) all ∙ made.1))),
     )
@@ -291,7 +276,7 @@ text_means known ledger bs s traced have surveys sized =
       uuid = trace.identified;
       environment = environment.1;
       clocks = clocks.mean;
-      clocks_once = clocks.once;
+      clocks_once = sym (no_two_seen same_name bytes_eq (λ c. c.name) clocks.made (λ x y. refl)) ∙ clocks.once;
       header = subst (λ (k : Known). header_meaning k seen.0 ≡ Some trace.header) same trace.headed;
       streams = subst (λ (k : Known). streams_meaning k bs ≡ Some streams.0) same streams.1;
     } in

@@ -1,8 +1,7 @@
 -- What the kinds, the brackets and the members of a structure mean in which no flaw is found.
-use Rattle.std.proofs.Common.{◌≡◌, ℕ, ◌+◌, ◌<◌, ◌%◌, ◌==◌, Bool, true, false, cond, ◌&&◌, ◌||◌, List, [], ◌∷◌, ◌++◌, length, take, get_or, Option, Some, None, IsSome, Bor, ℤ, pos, negsuc, refl, sym, ap, subst, ◌∙◌, arith, length-append, length-take, ◌*◌, ◌≤◌, ◌⊎◌, ◌^◌, max, inl, inr, not}
-use Rattle.tsdl_meaning.proofs.TextWords.{Adds, AddsOwn, AreBrackets, AreRanges, Asked, Attribute, BTreeSet, Bracket, ByteOrder, Entries, Entry, Global, HaveNumbers, KeepsLimits, Known, Leaf, MemberTree, MemberType, NameLength, Number, ScopeRule, String, StructType, Structure, Value, align_of, align_with, and_from, are_distinct, are_lengths, attr, attr_names, base_value, bind_is, bind_some, bracketed, bytes_eq, clock_value, codes, count_of, default_align, each, elements_of, encoding_value, entries_of, entry_meaning, enum_meaning, eqb-true, flag_value, has_member, has_only, high_of, int_attrs, int_le, int_meaning, is_alignment, is_among, is_fit, is_size, is_some, kind_meaning, le-leb, leb-true, length_place, list_all, list_any, ltb-true, map-append, member_meaning, members_meaning, nat_le, nat_lt, natural, natural_value, of_integer, of_string, option_map, option_map_or, order_value, order_words, own_asked, own_attrs, provided, provided_some, signed_of, some_same, string_attrs, struct_meaning, struct_type, suits_rule, take_more, text_meaning, tree_of, with_default, word_value, words_of, ◌>>=◌}
+use Rattle.std.proofs.Common.{◌≡◌, ℕ, ◌+◌, ◌<◌, ◌%◌, ◌==◌, Bool, true, false, cond, ◌&&◌, List, [], ◌∷◌, ◌++◌, length, Option, Some, None, IsSome, Bor, ℤ, pos, negsuc, refl, sym, ap, ap₂, subst, ◌∙◌, arith, length-append, ◌*◌, ◌≤◌, ◌⊎◌, ◌^◌, max, inl, inr, not}
+use Rattle.tsdl_meaning.proofs.TextWords.{Adds, AddsAttribute, AreBrackets, AreRanges, Asked, Attribute, BTreeSet, Bracket, ByteOrder, Entries, Entry, Global, HaveNumbers, KeepsLimits, Known, Leaf, MemberTree, MemberType, NameLength, Number, ScopeRule, String, StructType, Structure, Value, align_of, align_with, and_from, and_true, are_distinct, are_lengths, attr, attr_names, base_value, bind_is, bind_some, bracketed, bytes_eq, clock_value, codes, count_of, default_align, each, elements_of, encoding_value, entries_of, entry_meaning, enum_meaning, eqb-true, flag_value, has_member, has_only, high_of, int_attrs, int_le, int_meaning, is_alignment, is_among, is_size, is_some, kind_meaning, le-leb, leb-true, length_place, list_all, list_any, ltb-true, member_meaning, members_meaning, nat_le, nat_lt, natural, natural_value, of_integer, of_string, option_map, option_map_or, order_value, order_words, own_asked, own_attrs, provided, provided_some, signed_of, some_same, string_attrs, struct_meaning, struct_type, suits_rule, text_meaning, tree_of, with_default, word_value, words_of, ◌>>=◌}
 use Rattle.std.proofs.lemmas.Bool.Decides.{nat_tests}
-use Rattle.std.proofs.lemmas.List.Folds.{list_all-append}
 use Rattle.ctf_types.specs.declared.ByteOrder.TheVariants.{Little, Big}
 use Rattle.ctf_types.specs.declared.Base.TheVariants.{Dec}
 use Rattle.ctf_types.specs.declared.IntType.{IntType}
@@ -10,9 +9,12 @@ use Rattle.tsdl_grammar.specs.declared.tree.Kind.TheVariants as kinds
 use Rattle.tsdl_meaning.specs.declared.judge.kind.TypeKind.{TypeKind}
 use Rattle.tsdl_meaning.specs.declared.judge.kind.TypeKind.TheVariants as types
 use Rattle.tsdl_grammar.proofs.TypeParts.{int_type-own, struct_type-own}
-use Rattle.tsdl_meaning.proofs.FlawlessItems.{HasAll, names_more, distinct_more, and_left, and_right, some_is, value_fits, default_is, option_is}
+use Rattle.tsdl_meaning.proofs.FlawlessItems.{Attributes, attribute_more, all_one_more, passes_of, some_is, there_of, value_fits, default_is, option_is}
+use Rattle.tsdl_meaning.proofs.DistinctKeys.{or_false}
 use Rattle.tsdl_meaning.proofs.FlawlessFacts.{each_more}
 use Rattle.std.proofs.Math.Nat.{mul_assoc, mul-one, one-mul}
+use Rattle.tsdl_flaw.specs.Limits as limits
+use Rattle.tsdl_flaw.specs.Limits.{depth, elements}
 use Rattle.tsdl_grammar.specs.declared.tree.Bracket.TheVariants as brackets
 use Rattle.tsdl_meaning.specs.declared.judge.brackets.Lengths.{Lengths}
 use Rattle.tsdl_meaning.specs.FlawlessStructures.{AddsMember, IsFlawless}
@@ -21,51 +23,22 @@ use Rattle.tsdl_meaning.specs.FlawlessStructures.{AddsMember, IsFlawless}
 
 pub record Own (allowed : List (List (List ℕ))) (asked : Asked) (all : List Attribute) (names : BTreeSet (String Global)) : Type 0 where
   pub among : list_all (λ a. is_among allowed (words_of a.name)) all ≡ true
-  pub fit : list_all (is_fit asked) all ≡ true
-  pub once : are_distinct (attr_names all) ≡ true
-  pub kept : HasAll names (attr_names all)
+  pub attributes : Attributes asked names all
 
-all_one_more : {A : Type 0} (f : A → Bool) (xs : List A) (x : A) → list_all f xs ≡ true → f x ≡ true → list_all f (xs ++ x ∷ []) ≡ true
-all_one_more f xs x all one = list_all-append f xs (x ∷ []) ∙ and_from (list_all f xs) (f x && true) all (and_from (f x) true one refl)
-
-own_more : (allowed : List (List (List ℕ))) (asked : Asked) (all : List Attribute) (a : Attribute) (before after : BTreeSet (String Global)) → Own allowed asked all before → AddsOwn allowed asked before a after
-    → Own allowed asked (all ++ a ∷ []) after
-own_more allowed asked all a before after s adds =
-    let names : attr_names (all ++ a ∷ []) ≡ attr_names all ++ words_of a.name ∷ [] = map-append (λ x. words_of x.name) all (a ∷ []) in
-    record {
-      among = all_one_more (λ x. is_among allowed (words_of x.name)) all a s.among adds.among;
-      fit = all_one_more (is_fit asked) all a s.fit adds.fit;
-      once = ap are_distinct names ∙ distinct_more before after (attr_names all) a.name adds.name s.kept s.once;
-      kept = subst (HasAll after) (sym names) (names_more before after (attr_names all) a.name adds.name s.kept);
-    }
-
-pub next_own : (allowed : List (List (List ℕ))) (asked : Asked) (all : List Attribute) (i : ℕ) (a : Attribute) (before after : BTreeSet (String Global)) → i < length all → a ≡ get_or all i a
-    → Own allowed asked (take i all) before → AddsOwn allowed asked before a after → Own allowed asked (take (i + 1) all) after
-next_own allowed asked all i a before after h is s adds =
-    subst (λ (l : List Attribute). Own allowed asked l after) (sym (take_more all i a h ∙ ap (λ (x : Attribute). take i all ++ x ∷ []) (sym is)))
-    (own_more allowed asked (take i all) a before after s adds)
+pub own_more : (allowed : List (List (List ℕ))) (asked : Asked) (all : List Attribute) (a : Attribute) (before after : BTreeSet (String Global)) → Own allowed asked all before
+    → is_among allowed (words_of a.name) ≡ true → AddsAttribute asked before a after → Own allowed asked (all ++ a ∷ []) after
+own_more allowed asked all a before after s among adds =
+    record { among = all_one_more (λ x. is_among allowed (words_of x.name)) all a s.among among; attributes = attribute_more asked before after all a s.attributes adds }
 
 only_these : (allowed : List (List (List ℕ))) (asked : Asked) (all : List Attribute) (names : BTreeSet (String Global)) → Own allowed asked all names → has_only allowed all ≡ true
-only_these allowed asked all names s = and_from (are_distinct (attr_names all)) (list_all (λ a. is_among allowed (words_of a.name)) all) s.once s.among
+only_these allowed asked all names s = and_from (are_distinct (attr_names all)) (list_all (λ a. is_among allowed (words_of a.name)) all) s.attributes.named.once s.among
 
 -- ---- values
 
-passes_of : {A : Type 0} (P : A → Bool) (o : Option A) (x : A) → option_map_or P o false ≡ true → o ≡ Some x → P x ≡ true
-passes_of P None x e f = absurd cc
-passes_of P (Some y) x e f = let same : y ≡ x = cc in ap P (sym same) ∙ e
-
-there_of : {A : Type 0} (P : A → Bool) (o : Option A) → option_map_or P o false ≡ true → is_some o ≡ true
-there_of P None e = absurd cc
-there_of P (Some x) e = refl
-
-only : (b : Bool) → (b || false) ≡ true → b ≡ true
-only true h = refl
-only false h = absurd cc
-
 -- a word that is `native` is a byte order, whatever the trace's is
 native_word : (order : ByteOrder) (w : List ℕ) → list_any (bytes_eq w) (codes "native" ∷ []) ≡ true → list_any (bytes_eq w) (order_words order) ≡ true
-native_word Little w e = rw (only (bytes_eq w (codes "native")) e) refl
-native_word Big w e = rw (only (bytes_eq w (codes "native")) e) refl
+native_word Little w e = rw (sym (or_false (bytes_eq w (codes "native"))) ∙ e) refl
+native_word Big w e = rw (sym (or_false (bytes_eq w (codes "native"))) ∙ e) refl
 
 word_held : (order : ByteOrder) (o : Option (List ℕ)) → option_map_or (λ w. list_any (bytes_eq w) (codes "native" ∷ [])) o false ≡ true
     → is_some (o >>= λ w. provided (list_any (bytes_eq w) (order_words order)) (Some order)) ≡ true
@@ -95,7 +68,7 @@ integer_means : (known : Known) (attrs : List Attribute) (names : BTreeSet (Stri
 unfolding int_meaning
 integer_means known attrs names s there =
     let asked = of_integer known in
-    let all = s.fit in
+    let all = s.attributes.fit in
     let given = some_is (attr (codes "size") attrs) there in
     let sized : is_size given.0 ≡ true = value_fits asked (codes "size") attrs given.0 all given.1 in
     let size = some_is (natural_value given.0) (there_of (λ n. nat_lt 0 n && nat_le n 64) (natural_value given.0) sized) in
@@ -112,10 +85,10 @@ integer_means known attrs names s there =
       signed = signed.0;
       base = base.0;
       clock = clock.0;
-      not_empty = ltb-true 0 size.0 (and_left (nat_lt 0 size.0) (nat_le size.0 64) range);
-      at_most_64 = leb-true size.0 64 (and_right (nat_lt 0 size.0) (nat_le size.0 64) range);
-      positive = ltb-true 0 align.0 (and_left (nat_lt 0 align.0) (4096 % align.0 == 0) aligned);
-      power_of_two = eqb-true (4096 % align.0) 0 (and_right (nat_lt 0 align.0) (4096 % align.0 == 0) aligned);
+      not_empty = ltb-true 0 size.0 (and_true (nat_lt 0 size.0) (nat_le size.0 64) range).0;
+      at_most_64 = leb-true size.0 64 (and_true (nat_lt 0 size.0) (nat_le size.0 64) range).1;
+      positive = ltb-true 0 align.0 (and_true (nat_lt 0 align.0) (4096 % align.0 == 0) aligned).0;
+      power_of_two = eqb-true (4096 % align.0) 0 (and_true (nat_lt 0 align.0) (4096 % align.0 == 0) aligned).1;
     } in
     let one : (attr (codes "size") attrs >>= natural_value) ≡ Some size.0 = ap (λ (o : Option Value). o >>= natural_value) given.1 ∙ size.1 in
     rw (only_these int_attrs asked attrs names s, one, align.1, signed.1, order.1, base.1, clock.1, int_type-own t) refl
@@ -143,7 +116,7 @@ int_means known attrs h = some_before _ (int_meaning known attrs) h
 string_means : (attrs : List Attribute) (names : BTreeSet (String Global)) → Own string_attrs of_string attrs names → IsSome (text_meaning (Some attrs))
 unfolding text_meaning
 string_means attrs names s =
-    let encoded = default_is of_string encoding_value (codes "encoding") attrs s.fit (λ v h. h) true in
+    let encoded = default_is of_string encoding_value (codes "encoding") attrs s.attributes.fit (λ v h. h) true in
     rw (only_these string_attrs of_string attrs names s, encoded.1) refl
 
 -- a string alone, and with what encoding it has
@@ -180,18 +153,11 @@ first_range e meant =
     let m = some_is (entry_meaning e) meant in
     record { few = omega arith; mappings = m.0 ∷ []; mean = bind_is (entry_meaning e) (λ y. Some (y ∷ [])) m.0 (m.0 ∷ []) m.1 refl }
 
-range_more : (es : List Entry) (e : Entry) → AreRanges es → length es < 65536 → IsSome (entry_meaning e) → AreRanges (es ++ e ∷ [])
+pub range_more : (es : List Entry) (e : Entry) → AreRanges es → length es < 65536 → IsSome (entry_meaning e) → AreRanges (es ++ e ∷ [])
 range_more es e s few meant =
     let m = some_is (entry_meaning e) meant in
     let n = length-append es (e ∷ []) in
     record { few = omega (arith, n, few); mappings = s.mappings ++ m.0 ∷ []; mean = each_more entry_meaning es s.mappings e m.0 s.mean m.1 }
-
-pub next_range : (first : Entry) (others : List Entry) (i : ℕ) (e : Entry) → i < length others → e ≡ get_or others i e → AreRanges (first ∷ take i others) → i + 1 < 65536 → IsSome (entry_meaning e)
-    → AreRanges (first ∷ take (i + 1) others)
-next_range first others i e h is s few meant =
-    let l = length-take i others in
-    subst (λ (es : List Entry). AreRanges (first ∷ es)) (sym (take_more others i e h ∙ ap (λ (x : Entry). take i others ++ x ∷ []) (sym is)))
-    (range_more (first ∷ take i others) e s (omega (arith, l, few)) meant)
 
 -- ---- look-ups
 
@@ -211,7 +177,7 @@ elements_behind (m ∷ ns) n = ap (λ (k : ℕ). max 1 m * k) (elements_behind n
 all_bits : (ns : List ℕ) (n : ℕ) → list_all (nat_lt 0) ns ≡ true → 0 < n → list_all (nat_lt 0) (ns ++ n ∷ []) ≡ true
 all_bits ns n all some =
     let one : nat_lt 0 n ≡ true = grind (arith, nat_tests) in
-    list_all-append (nat_lt 0) ns (n ∷ []) ∙ and_from (list_all (nat_lt 0) ns) (nat_lt 0 n && true) all (and_from (nat_lt 0 n) true one refl)
+    all_one_more (nat_lt 0) ns n all one
 
 -- one more number
 pub count_more : (before : List (List ℕ × MemberType)) (done : List Bracket) (old new : Lengths) (number : Number) (n : ℕ) → AreBrackets before done old → natural number ≡ Some n → KeepsLimits old n new
@@ -276,10 +242,26 @@ name_more before done old name s plain none place = by s.shape
         empty_numbers [] e = refl
         empty_numbers (n ∷ ns) e = absurd (omega (arith, e))
 
-pub next_brackets : (before : List (List ℕ × MemberType)) (bs : List Bracket) (i : ℕ) (x : Bracket) (new : Lengths) → i < length bs → x ≡ get_or bs i x → AreBrackets before (take i bs ++ x ∷ []) new
-    → AreBrackets before (take (i + 1) bs) new
-next_brackets before bs i x new h is s =
-    subst (λ (l : List Bracket). AreBrackets before l new) (sym (take_more bs i x h ∙ ap (λ (y : Bracket). take i bs ++ y ∷ []) (sym is))) s
+-- brackets with these numbers have as many lengths, and as many elements
+numbered_are : (done : List Bracket) (ns : List ℕ) → HaveNumbers done ns → (depth done ≡ length ns) × (elements done ≡ elements_of ns)
+numbered_are [] ns e = subst (λ (l : List ℕ). (0 ≡ length l) × (1 ≡ elements_of l)) (some_same [] ns (Some []) refl e) (refl, refl)
+numbered_are (brackets.Member w ∷ done) ns e = absurd cc
+numbered_are (brackets.Count n ∷ done) ns e =
+    let a = bind_some (natural n) (λ y. each count_of done >>= λ ys. Some (y ∷ ys)) ns e in
+    let r = bind_some (each count_of done) (λ ys. Some (a.0 ∷ ys)) ns a.2 in
+    let rest = numbered_are done r.0 r.1 in
+    let turned : max a.0 1 ≡ max 1 a.0 = omega arith in
+    subst (λ (l : List ℕ). (1 + depth done ≡ length l) × (elements (brackets.Count n ∷ done) ≡ elements_of l)) (some_same (a.0 ∷ r.0) ns (Some (a.0 ∷ r.0)) refl r.2)
+    (omega (arith, rest.0), ap₂ (λ (o : Option ℕ) (k : ℕ). limits.elements_of o * k) a.1 rest.1 ∙ ap (λ (k : ℕ). k * elements_of r.0) turned)
+
+pub lengths_of : (before : List (List ℕ × MemberType)) (done : List Bracket) (l : Lengths) → AreBrackets before done l → (depth done ≡ l.count) × (elements done ≡ l.elements)
+lengths_of before done l s =
+    elim s.shape [
+      | inl plain ↦ (let n = numbered_are done s.numbers plain.1 in (n.0 ∙ sym s.counted, n.1 ∙ sym s.made))
+      | inr named ↦
+          let n = numbered_are named.1.rest s.numbers named.1.numbered in
+          (ap depth named.1.begins ∙ n.0 ∙ sym s.counted, ap elements named.1.begins ∙ n.1 ∙ sym s.made)
+    ]
 
 -- ---- the type
 
@@ -342,7 +324,7 @@ more_mean known before (x ∷ trees) members tree t e fresh meant =
     bind_is first (λ u. members_meaning known (before ++ (x.name, u) ∷ []) (trees ++ tree ∷ [])) a.0 (members ++ (tree.name, t) ∷ []) a.1
     (more_mean known (before ++ (x.name, a.0) ∷ []) trees members tree t a.2 fresh meant)
 
-one_more : (known : Known) (rule : ScopeRule) (trees : List MemberTree) (before after : List (List ℕ × MemberType)) (tree : MemberTree) → AreFlawless known rule trees before
+pub one_more : (known : Known) (rule : ScopeRule) (trees : List MemberTree) (before after : List (List ℕ × MemberType)) (tree : MemberTree) → AreFlawless known rule trees before
     → AddsMember known rule before tree after → AreFlawless known rule (trees ++ tree ∷ []) after
 one_more known rule trees before after tree f a =
     let more = before ++ (tree.name, a.member) ∷ [] in
@@ -353,15 +335,9 @@ one_more known rule trees before after tree f a =
       few = omega (arith, m, below);
       counted = omega (arith, m, n, counted);
       mean = more_mean known [] trees before tree a.member f.mean a.fresh a.meant;
-      suit = list_all-append (suits_rule rule) before ((tree.name, a.member) ∷ []) ∙ and_from (list_all (suits_rule rule) before) (suits_rule rule (tree.name, a.member) && true) f.suit (and_from (suits_rule rule (tree.name, a.member)) true a.suits refl);
+      suit = all_one_more (suits_rule rule) before (tree.name, a.member) f.suit a.suits;
     } in
     subst (AreFlawless known rule (trees ++ tree ∷ [])) (sym a.added) made
-
-pub next_flawless : (known : Known) (rule : ScopeRule) (trees : List MemberTree) (i : ℕ) (tree : MemberTree) (before after : List (List ℕ × MemberType)) → i < length trees
-    → tree ≡ get_or trees i tree → AreFlawless known rule (take i trees) before → AddsMember known rule before tree after → AreFlawless known rule (take (i + 1) trees) after
-next_flawless known rule trees i tree before after h is f a =
-    subst (λ (l : List MemberTree). AreFlawless known rule l after) (sym (take_more trees i tree h ∙ ap (λ (t : MemberTree). take i trees ++ t ∷ []) (sym is)))
-    (one_more known rule (take i trees) before after tree f a)
 
 pub none_flawless : (known : Known) (rule : ScopeRule) (members : List (List ℕ × MemberType)) → members ≡ [] → AreFlawless known rule [] members
 unfolding members_meaning

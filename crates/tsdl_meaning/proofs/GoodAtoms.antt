@@ -1,6 +1,6 @@
 -- What the tokens of a text mean: each word is a name that metadata may have, and each number has 64 bits.
 use Rattle.std.proofs.Common.{◌≡◌, ℕ, suc, ◌+◌, ◌<◌, ◌^◌, Bool, true, false, cond, not, ◌&&◌, ◌||◌, ltb, List, [], ◌∷◌, ◌++◌, take, drop, Option, Some, None, refl, sym, ap, subst, ◌∙◌, arith}
-use Rattle.tsdl_meaning.proofs.TextWords.{AllByRecursion, Atom, IsMetadataName, bytes_eq, is_digit, is_identifier, is_letter, is_read, is_utf8, list_all, list_any, ltb-true, not-true, option_and_then, option_map, prefix_len, unused_keywords, ◌==◌}
+use Rattle.tsdl_meaning.proofs.TextWords.{AllByRecursion, Atom, IsMetadataName, and_true, bytes_eq, is_digit, is_identifier, is_letter, is_read, is_utf8, list_all, list_any, ltb-true, not-true, option_and_then, option_map, prefix_len, unused_keywords, ◌==◌}
 use Rattle.std.specs.Char.{is_ascii_digit}
 use Rattle.std.proofs.lemmas.Bool.Decides.{nat_tests}
 use Rattle.std.proofs.lemmas.List.Folds.{list_all-append}
@@ -16,7 +16,6 @@ use Rattle.tsdl_grammar.specs.Tokens.{Splits}
 use Rattle.tsdl_grammar.specs.Atoms.{content_of, number_atom, text_atom, piece_atoms, atoms_along, Reads}
 use Rattle.tsdl_grammar.specs.Escapes.{unescaped}
 use Rattle.tsdl_grammar.proofs.Continuation.{spells}
-use Rattle.tsdl_grammar.proofs.Runs.{and_true}
 
 -- a word that metadata may have as a name, a number of 64 bits
 abbrev pub IsGood : Atom → Type 0

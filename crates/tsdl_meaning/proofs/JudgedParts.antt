@@ -1,7 +1,6 @@
 -- A stop in a part of a tree is a stop in the tree, and what a judge hands on from a part.
-use Rattle.std.proofs.Common.{◌≡◌, ℕ, suc, ◌<◌, List, [], ◌++◌, length, take, drop, get_or, sym, ap, ◌∙◌, subst, append_assoc, Result, Ok, Err}
-use Rattle.tsdl_meaning.proofs.TextWords.{Atom, Ends, Holds, IfErr, IfOk, IsErrAnd, StandsBehind, Stop, StopsAmong, StopsIn, StopsWhere, append-nil, flat_map}
-use Rattle.tsdl_flaw.proofs.Parts as parts
+use Rattle.std.proofs.Common.{◌≡◌, ℕ, suc, ◌+◌, ◌<◌, min, arith, Bool, true, false, ◌||◌, List, [], ◌∷◌, ◌++◌, length, take, drop, get_or, refl, sym, ap, ◌∙◌, subst, inl, inr, append_assoc, Result, Ok, Err}
+use Rattle.tsdl_meaning.proofs.TextWords.{Atom, Ends, HasLength, Holds, IfErr, IfOk, IsErrAnd, StandsBehind, Stop, StopsAmong, StopsIn, StopsWhere, append-nil, cases_Bool, flat_map, list_any, most, stops_after, stops_item}
 
 -- ---- answers
 
@@ -30,6 +29,26 @@ holds_more front more toks (before, behind, e) = (before, behind ++ more, ap (λ
 pub holds_last : (front toks : List Atom) → Holds (front ++ toks) toks
 holds_last front toks = (front, [], ap (λ (l : List Atom). front ++ l) (sym (append-nil toks)))
 
+-- among the last atoms of a front
+pub holds_among : (front opening toks part : List Atom) → Ends front (opening ++ toks) → Holds toks part → Holds front part
+holds_among front opening toks part (others, e) (before, behind, h) =
+    (others ++ (opening ++ before), behind, e ∙ ap (λ (l : List Atom). others ++ (opening ++ l)) h ∙ simp append_assoc)
+
+-- in a part of a front
+pub holds_part : (front toks part : List Atom) → Holds front toks → Holds toks part → Holds front part
+holds_part front toks part (before, behind, e) (pre, post, h) = (before ++ pre, post ++ behind, e ∙ ap (λ (l : List Atom). before ++ (l ++ behind)) h ∙ simp append_assoc)
+
+-- an item that passes a test stands among the items
+pub item_there : {A : Type 0} (toks : A → List Atom) (test : A → Bool) (xs : List A) → list_any test xs ≡ true → (x : A) × (test x ≡ true) × Holds (flat_map toks xs) (toks x)
+item_there toks test [] e = absurd (let never : false ≡ true = e in cc)
+item_there toks test (x ∷ xs) e =
+    elim (cases_Bool (test x)) [
+      | inl t ↦ (x, t, ([], flat_map toks xs, refl))
+      | inr f ↦
+          let later = item_there toks test xs (ap (λ (b : Bool). b || list_any test xs) (sym f) ∙ e) in
+          (later.0, later.1, holds_among (toks x ++ flat_map toks xs) (toks x) (flat_map toks xs) (toks later.0) ([], refl) later.2)
+    ]
+
 -- behind a front that ends so, and more
 pub ends_more : (front toks more : List Atom) → Ends front toks → Ends (front ++ more) (toks ++ more)
 ends_more front toks more (others, e) = (others, ap (λ (l : List Atom). l ++ more) e ∙ append_assoc others toks more)
@@ -44,14 +63,23 @@ ends_part front toks more (others, e) = (others ++ toks, e ∙ sym (append_assoc
 pub stops_same : (front toks other : List Atom) (at : ℕ) (stop : Stop) → toks ≡ other → StopsIn front at other stop → StopsIn front at toks stop
 stops_same front toks other at stop e s = subst (λ (l : List Atom). StopsIn front at l stop) (sym e) s
 
--- a stop in an item of a list that stands behind some atoms and before others
-pub stops_item : {A : Type 0} (f : A → List Atom) (xs : List A) (i : ℕ) (x : A) (front toks opening closing : List Atom) (at place : ℕ) (stop : Stop)
-    → i < length xs → x ≡ get_or xs i x → toks ≡ opening ++ (flat_map f xs ++ closing) → StandsBehind at (opening ++ flat_map f (take i xs)) place
-    → ((behind : List Atom) → StopsIn (front ++ (opening ++ flat_map f (take i xs))) place (f x ++ behind) stop)
-    → StopsIn front at toks stop
-stops_item f xs i x front toks opening closing at place stop h is e after s =
-    stops_same front toks (opening ++ flat_map f xs ++ closing) at stop (e ∙ sym (append_assoc opening (flat_map f xs) closing))
-    (parts.stops_item f xs i x opening closing front at place stop h is after (s (flat_map f (drop (suc i) xs) ++ closing)))
+-- the place behind the first atoms
+pub behind_first : (own : List Atom) (at n next : ℕ) → HasLength own n → next ≡ min (at + n) most → StandsBehind at own next
+behind_first own at n next counts is = λ fits. let c : n ≡ length own = counts (omega arith) in omega arith
+
+-- a stop in a part that stands between others
+pub in_part : (toks pre part post front behind : List Atom) (at place : ℕ) (stop : Stop) → toks ≡ pre ++ (part ++ post) → StandsBehind at pre place
+    → StopsIn (front ++ pre) place (part ++ (post ++ behind)) stop → StopsIn front at (toks ++ behind) stop
+in_part toks pre part post front behind at place stop e stands s =
+    stops_after front (toks ++ behind) pre (part ++ (post ++ behind)) at place stop (ap (λ (l : List Atom). l ++ behind) e ∙ simp append_assoc) stands s
+
+-- a stop in an item of a list that stands between others
+pub in_item : {A : Type 0} (f : A → List Atom) (xs : List A) (i : ℕ) (x : A) (toks opening closing front behind : List Atom) (at place : ℕ) (stop : Stop) → i < length xs → x ≡ get_or xs i x
+    → toks ≡ opening ++ (flat_map f xs ++ closing) → StandsBehind at (opening ++ flat_map f (take i xs)) place
+    → ((after : List Atom) → StopsIn (front ++ (opening ++ flat_map f (take i xs))) place (f x ++ after) stop) → StopsIn front at (toks ++ behind) stop
+in_item f xs i x toks opening closing front behind at place stop h is e stands s =
+    stops_same front (toks ++ behind) (opening ++ flat_map f xs ++ (closing ++ behind)) at stop (ap (λ (l : List Atom). l ++ behind) e ∙ simp append_assoc)
+    (stops_item f xs i x opening (closing ++ behind) front at place stop h is stands (s (flat_map f (drop (suc i) xs) ++ (closing ++ behind))))
 
 -- a stop that any front allows is one behind a front that something is known of
 pub any_front : {T : Type 0} (r : Result T Stop) (P : List Atom → Type 0) (at : ℕ) (toks : List Atom) → IfErr r (StopsAmong at toks) → IfErr r (StopsWhere P at toks)

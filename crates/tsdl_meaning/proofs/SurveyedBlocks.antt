@@ -1,11 +1,11 @@
 -- What is noted of the blocks of a text is what its integers have to know.
 use Rattle.std.proofs.Common.{◌≡◌, ℕ, Bool, true, false, not, ◌&&◌, List, [], ◌∷◌, ◌++◌, map, Option, Some, None, refl, sym, ap, ap₂, subst, ◌∙◌, inl, inr}
-use Rattle.tsdl_meaning.proofs.TextWords.{Attribute, Block, ByteOrder, ClockType, Item, Known, Surveys, Value, are_distinct, attr, attr_names, attrs_in, bind_some, cases_Bool, clock_meaning, codes, each, first_of, flat_map, is_word, list_any, listed, meant_by, name_of, name_value, not-true, only, option_or, or_parts, order_of, order_table, orders_in, same_words, some_same, trace_in, trace_order, unwrap_or, word_value, words_of, ◌>>=◌}
+use Rattle.tsdl_meaning.proofs.TextWords.{Attribute, Block, ByteOrder, ClockType, Item, Known, Surveys, Value, and_true, are_distinct, attr, attr_names, attrs_in, bind_some, cases_Bool, clock_meaning, codes, each, first_of, flat_map, is_word, list_any, listed, meant_by, name_of, name_value, not-true, only, option_or, or_parts, order_of, order_table, orders_in, same_words, some_same, trace_in, trace_order, unwrap_or, word_value, words_of, ◌>>=◌}
 use Rattle.ctf_types.specs.declared.ByteOrder.TheVariants.{Little}
 use Rattle.tsdl_grammar.specs.Denotes.{clock_in}
 use Rattle.tsdl_grammar.proofs.BlockParts.{says_clock}
 use Rattle.tsdl_meaning.specs.NotedBlocks.{names_in}
-use Rattle.tsdl_meaning.proofs.FlawlessItems.{and_left, and_right, same_words-is}
+use Rattle.tsdl_meaning.proofs.FlawlessItems.{same_words-is}
 
 -- ---- tests
 
@@ -61,7 +61,7 @@ none_named (a ∷ attrs) e =
 one_named : (attrs : List Attribute) (name : List ℕ) → are_distinct (attr_names attrs) ≡ true → (attr (codes "name") attrs >>= name_value) ≡ Some name → flat_map name_of attrs ≡ name ∷ []
 one_named [] name d e = absurd cc
 one_named (a ∷ attrs) name d e =
-    let once = not-true (list_any (same_words (words_of a.name)) (attr_names attrs)) (and_left (not (list_any (same_words (words_of a.name)) (attr_names attrs))) (are_distinct (attr_names attrs)) d) in
+    let once = not-true (list_any (same_words (words_of a.name)) (attr_names attrs)) (and_true (not (list_any (same_words (words_of a.name)) (attr_names attrs))) (are_distinct (attr_names attrs)) d).0 in
     elim (cases_Bool (is_word (codes "name") a.name)) [
       | inl t ↦
           let given : name_value a.value ≡ Some name = sym (rw t refl) ∙ e in
@@ -73,7 +73,7 @@ one_named (a ∷ attrs) name d e =
           let later : (attr (codes "name") attrs >>= name_value) ≡ Some name = sym (rw f refl) ∙ e in
           let own : name_of a ≡ [] = rw f refl in
           ap (λ (l : List (List ℕ)). l ++ flat_map name_of attrs) own
-          ∙ one_named attrs name (and_right (not (list_any (same_words (words_of a.name)) (attr_names attrs))) (are_distinct (attr_names attrs)) d) later
+          ∙ one_named attrs name (and_true (not (list_any (same_words (words_of a.name)) (attr_names attrs))) (are_distinct (attr_names attrs)) d).1 later
     ]
 
 -- the attributes of a block stand once

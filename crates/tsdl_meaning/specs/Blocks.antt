@@ -1,17 +1,12 @@
 -- The blocks that have attributes and scopes, and what stands before their parts.
 use Rattle.std.specs.Prelude.{ℕ, List, codes}
-use Rattle.std.specs.BTreeSet.{BTreeSet}
-use Rattle.std.specs.declared.string.String.{String}
-use Rattle.std.specs.declared.alloc.Global.{Global}
 use Rattle.tsdl_grammar.specs.declared.atom.Atom.{Atom}
-use Rattle.tsdl_grammar.specs.declared.token.Mark.TheVariants as marks
 use Rattle.tsdl_grammar.specs.declared.tree.Item.{Item}
 use Rattle.tsdl_flaw.specs.Fronts.{Ends}
 use Rattle.tsdl_flaw.specs.Twice.{begun}
 use Rattle.tsdl_meaning.specs.declared.judge.block.BlockKind.{BlockKind}
 use Rattle.tsdl_meaning.specs.declared.judge.block.BlockKind.TheVariants as kinds
 use Rattle.tsdl_meaning.specs.declared.judge.block.Judging.{Judging}
-use Rattle.tsdl_meaning.specs.NamesBefore.{AreNamed}
 use Rattle.tsdl_meaning.specs.Ledgers.{AreNoted}
 
 -- the word of a block
@@ -25,8 +20,3 @@ word_of kinds.Clock = codes "clock"
 pub record IsBegun (judging : Judging) (items : List Item) (front : List Atom) : Type 0 where
   pub noted : AreNoted front judging.ledger.now
   pub ends : Ends front (begun (word_of judging.kind) items)
-
--- the names of the attributes and scopes stand in the front, each with its mark
-pub record AreKept (attributes scopes : BTreeSet (String Global)) (front : List Atom) : Type 0 where
-  pub named : AreNamed front marks.Equals attributes
-  pub scoped : AreNamed front marks.Assign scopes

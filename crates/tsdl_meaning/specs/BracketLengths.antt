@@ -1,25 +1,12 @@
 -- What the brackets of a member say so far.
-use Rattle.std.specs.Prelude.{◌≡◌, ℕ, ◌+◌, ◌*◌, ◌<◌, ◌≤◌, ◌⊎◌, max, true, false, List, [], ◌∷◌, ◌++◌}
+use Rattle.std.specs.Prelude.{◌≡◌, ℕ, ◌+◌, ◌*◌, ◌<◌, ◌≤◌, ◌⊎◌, max, true, List, [], ◌∷◌, ◌++◌}
 use Rattle.std.specs.List.{flat_map}
 use Rattle.tsdl_grammar.specs.declared.token.Mark.TheVariants as marks
 use Rattle.tsdl_grammar.specs.declared.atom.Atom.{Atom}
 use Rattle.tsdl_grammar.specs.declared.tree.Bracket.{Bracket}
-use Rattle.tsdl_grammar.specs.declared.tree.Bracket.TheVariants as brackets
 use Rattle.tsdl_grammar.specs.Spelling.{mark, bracket_toks}
 use Rattle.tsdl_flaw.specs.Fronts.{Ends}
-use Rattle.tsdl_flaw.specs.Limits.{depth, elements}
 use Rattle.tsdl_meaning.specs.declared.judge.brackets.Lengths.{Lengths}
-
--- the first bracket has a name
-abbrev pub BeginsWithName : List Bracket → Type 0
-BeginsWithName done = (w : List ℕ) × (others : List Bracket) × (done ≡ brackets.Member w ∷ others)
-
--- these are the lengths of these brackets
-pub record HasLengths (l : Lengths) (done : List Bracket) : Type 0 where
-  pub counted : l.count ≡ depth done
-  pub made : l.elements ≡ elements done
-  pub sequence : l.is_sequence ≡ true → BeginsWithName done
-  pub none : l.is_sequence ≡ false → l.count ≡ 0 → done ≡ []
 
 -- one more length
 pub record Adds (old : Lengths) (n : ℕ) (new : Lengths) : Type 0 where

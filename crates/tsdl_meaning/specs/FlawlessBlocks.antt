@@ -133,9 +133,10 @@ pub record AddsName (before : BTreeSet (String Global)) (name : Name) (after : B
 
 -- ---- items
 
-pub record AddsAttribute (kind : BlockKind) (ledger : Ledger) (before : BTreeSet (String Global)) (a : Attribute) (after : BTreeSet (String Global)) : Type 0 where
+-- an attribute that has what its name is asked for
+pub record AddsAttribute (asked : Asked) (before : BTreeSet (String Global)) (a : Attribute) (after : BTreeSet (String Global)) : Type 0 where
   pub name : AddsName before a.name after
-  pub fit : is_fit (asked_of kind ledger) a ≡ true
+  pub fit : is_fit asked a ≡ true
 
 pub record AddsScope (known : Known) (kind : BlockKind) (before : BTreeSet (String Global)) (s : Scope) (after : BTreeSet (String Global)) : Type 0 where
   pub name : AddsName before s.name after

@@ -1,24 +1,20 @@
 -- What the attributes of an integer and of a string are in which no flaw is found: each is one that the type may have and has what its name asks for, and no
 -- name stands twice.
-use Rattle.std.specs.Prelude.{◌≡◌, ℕ, ◌≤◌, ◌%◌, ◌==◌, Bool, true, false, ◌&&◌, nat_lt, nat_le, List, [], ◌∷◌, length, Some, codes}
+use Rattle.std.specs.Prelude.{◌≡◌, ℕ, ◌≤◌, ◌%◌, ◌==◌, Bool, false, ◌&&◌, nat_lt, nat_le, List, [], ◌∷◌, length, Some, codes}
 use Rattle.std.specs.Option.{is_some, option_map_or}
-use Rattle.std.specs.BTreeSet.{BTreeSet}
-use Rattle.std.specs.declared.string.String.{String}
-use Rattle.std.specs.declared.alloc.Global.{Global}
 use Rattle.ctf_types.specs.declared.Mapping.{Mapping}
 use Rattle.tsdl_grammar.specs.declared.tree.Entry.{Entry}
 use Rattle.tsdl_grammar.specs.declared.tree.Kind.{Kind}
 use Rattle.tsdl_grammar.specs.declared.tree.Kind.TheVariants as kinds
 use Rattle.tsdl_grammar.specs.declared.tree.Value.{Value}
 use Rattle.tsdl_grammar.specs.declared.tree.Attribute.{Attribute}
-use Rattle.tsdl_grammar.specs.Lookups.{words_of, is_among}
 use Rattle.tsdl_grammar.specs.AttributeValues.{natural_value, flag_value}
 use Rattle.tsdl_grammar.specs.IntegerMeaning.{Known, int_attrs, order_value, base_value, clock_value}
 use Rattle.tsdl_grammar.specs.MemberMeaning.{encoding_value, entry_meaning}
 use Rattle.tsdl_grammar.specs.Steps.{each}
 use Rattle.tsdl_meaning.specs.declared.judge.kind.TypeKind.{TypeKind}
 use Rattle.tsdl_meaning.specs.declared.judge.kind.TypeKind.TheVariants as types
-use Rattle.tsdl_meaning.specs.FlawlessBlocks.{Asked, is_fit, AddsName}
+use Rattle.tsdl_meaning.specs.FlawlessBlocks.{Asked}
 
 -- a size from 1 to 64 bits
 abbrev pub is_size : Value → Bool
@@ -59,12 +55,6 @@ own_attrs types.Text = string_attrs
 abbrev pub own_asked : Known → TypeKind → Asked
 own_asked known types.Integer = of_integer known
 own_asked known types.Text = of_string
-
--- one more attribute of a type that may have these
-pub record AddsOwn (allowed : List (List (List ℕ))) (asked : Asked) (before : BTreeSet (String Global)) (a : Attribute) (after : BTreeSet (String Global)) : Type 0 where
-  pub among : is_among allowed (words_of a.name) ≡ true
-  pub name : AddsName before a.name after
-  pub fit : is_fit asked a ≡ true
 
 -- at most 65,536 ranges, each of which means something
 pub record AreRanges (es : List Entry) : Type 0 where

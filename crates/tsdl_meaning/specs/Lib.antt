@@ -3,7 +3,6 @@ pub mod Distinct
 pub mod Fronts
 pub mod Members
 pub mod ScopeRules
-pub mod ClockNames
 pub mod Numbers
 pub mod Groups
 pub mod Judged

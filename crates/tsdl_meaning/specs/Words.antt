@@ -62,14 +62,13 @@ pub use Rattle.tsdl_grammar.specs.declared.tree.Number.{Number}
 pub use Rattle.tsdl_grammar.specs.declared.tree.Scope.{Scope}
 pub use Rattle.tsdl_grammar.specs.declared.tree.Structure.{Structure}
 pub use Rattle.tsdl_grammar.specs.declared.tree.Value.{Value}
-pub use Rattle.tsdl_meaning.specs.Blocks.{AreKept, IsBegun, word_of}
-pub use Rattle.tsdl_meaning.specs.BracketLengths.{Adds, BeginsWithName, HasLengths, IsBehindBrackets, IsInBracket, IsInBrackets, PassesLimit}
-pub use Rattle.tsdl_meaning.specs.ClockNames.{HasNames}
+pub use Rattle.tsdl_meaning.specs.Blocks.{IsBegun, word_of}
+pub use Rattle.tsdl_meaning.specs.BracketLengths.{Adds, IsBehindBrackets, IsInBracket, IsInBrackets, PassesLimit}
 pub use Rattle.tsdl_meaning.specs.FlawlessBlocks.{AddsAttribute, AddsName, AddsScope, AreFlawless, Asked, IsEnded, IsFlawlessBlock, IsFlawlessScope, IsNumberedAnew, asked_of, first_texts, fits, fits_word, is_fit, is_number, is_order, named_rules, needed, of_clock, of_event, of_stream, of_trace, passes, rule_in, scopes_of}
 pub use Rattle.tsdl_meaning.specs.FlawlessBrackets.{AreBrackets, HaveNumbers, KeepsLimits, NameLength}
 pub use Rattle.tsdl_meaning.specs.FlawlessStructures.{AddsMember, IsFlawless}
 pub use Rattle.tsdl_meaning.specs.FlawlessTexts.{AddsBlock, AddsClock, AddsFact, AddsStream, HaveStreams, IsEmpty, IsFlawlessBehind, MeanEntries, Surveys}
-pub use Rattle.tsdl_meaning.specs.FlawlessTypes.{AddsOwn, AreRanges, is_alignment, is_size, of_integer, of_string, own_asked, own_attrs, string_attrs, tree_of, type_word}
+pub use Rattle.tsdl_meaning.specs.FlawlessTypes.{AreRanges, is_alignment, is_size, of_integer, of_string, own_asked, own_attrs, string_attrs, tree_of, type_word}
 pub use Rattle.tsdl_meaning.specs.Fronts.{with_front}
 pub use Rattle.tsdl_meaning.specs.Groups.{AddsEvent, OthersStay, group_of, with_group, with_own}
 pub use Rattle.tsdl_meaning.specs.Judged.{EndsFacts, IsAttribute, StopsAmong, StopsWhere}
@@ -78,7 +77,7 @@ pub use Rattle.tsdl_meaning.specs.Ledgers.{AreNoted, HasClock, HasEvent, HasStre
 pub use Rattle.tsdl_meaning.specs.Members.{IsLengthAt, text_leaf}
 pub use Rattle.tsdl_meaning.specs.MembersBefore.{AreMembers, IsBehindKind, IsBehindMembers}
 pub use Rattle.tsdl_meaning.specs.Names.{name_lists, names_of, scope_names, texts_of}
-pub use Rattle.tsdl_meaning.specs.NamesBefore.{AreNamed, IsNamed}
+pub use Rattle.tsdl_meaning.specs.NamesBefore.{AreNamed, HasNames, IsNamed}
 pub use Rattle.tsdl_meaning.specs.NotedBlocks.{first_of, listed, name_of, order_of, orders_in}
 pub use Rattle.tsdl_meaning.specs.PacketSizes.{IfSizesMissed, LacksSizes, MissesSizes, has_in_context, has_sizes, member_names}
 pub use Rattle.tsdl_meaning.specs.ScopeRules.{SuitsAt, is_byte_chain, suits_rule}

@@ -1,6 +1,6 @@
 //! What the integers of a text have to know of all of it.
 
-ghost use Rattle.std.specs.Prelude.{◌≡◌, map, IfOk};
+ghost use Rattle.std.specs.Prelude.{◌≡◌, IfOk};
 ghost use Rattle.tsdl_meaning.specs.Words.{list_any, bytes_eq, known_of};
 
 use ctf_types::{ByteOrder, ClockType, ListOf, Text};
@@ -18,7 +18,7 @@ pub(crate) struct Known {
 
 impl Model for Known {
     ghost use Rattle.tsdl_grammar.specs.IntegerMeaning as meaning;
-    ghost use Rattle.tsdl_meaning.specs.ClockNames.{HasNames};
+    ghost use Rattle.tsdl_meaning.specs.NamesBefore.{HasNames};
 
     ghost Value = { meaning.Known };
 

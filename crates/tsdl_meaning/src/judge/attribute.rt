@@ -1,8 +1,8 @@
 //! The first flaw of an attribute of a block. An attribute that no rule names is passed over.
 #![tactic(auto, using(crate::proofs::JudgedParts::any_front))]
 
-ghost use Rattle.std.specs.Prelude.{List, ◌++◌, IfOk, IfErr, IsTrue, codes};
-ghost use Rattle.tsdl_meaning.specs.Words.{Atom, Item, attr_toks, value_toks, IsPartOfVersion, StopsAmong, StopsWhere, IsAttribute, AreNoted, AreNamed, IsBegun, word_of, AddsAttribute, is_fit, asked_of, fits, is_order, is_number};
+ghost use Rattle.std.specs.Prelude.{List, IfOk, IfErr, IsTrue, codes};
+ghost use Rattle.tsdl_meaning.specs.Words.{Item, attr_toks, value_toks, IsPartOfVersion, StopsAmong, StopsWhere, IsAttribute, AreNoted, AreNamed, IsBegun, word_of, AddsAttribute, is_fit, asked_of, fits, is_order, is_number};
 ghost use Rattle.tsdl_grammar.specs.declared.token.Mark.TheVariants as marks;
 
 use crate::judge::block::{BlockKind, Judging};
@@ -25,8 +25,7 @@ pub(crate) fn judge_attribute(
     at: usize,
 ) -> Result<(), Stop>
     ensures fault { (items : List Item) → IfErr result (StopsWhere (λ front. IsBegun judging.now items front × AreNamed front marks.Equals names.old.names) at (attr_toks attribute.now)) }
-    ensures flawless { IfOk result (λ _. AddsAttribute judging.now.kind judging.now.ledger.now names.old.names attribute.now names.new.names) }
-    ensures named { IfOk result (λ _. (front : List Atom) → AreNamed front marks.Equals names.old.names → AreNamed (front ++ attr_toks attribute.now) marks.Equals names.new.names) }
+    ensures flawless { IfOk result (λ _. AddsAttribute (asked_of judging.now.kind judging.now.ledger.now) names.old.names attribute.now names.new.names) }
 {
     names.add(judging.alloc, &attribute.name, at)?;
     judge_value(judging, attribute, at)

@@ -1,7 +1,7 @@
 //! The first flaw of a block: of an environment, or of a trace, a stream, an event or a clock with its attributes and scopes.
 
-ghost use Rattle.std.specs.Prelude.{◌≡◌, false, List, [], ◌∷◌, ◌++◌, IfOk, IfErr, IsTrue, codes};
-ghost use Rattle.tsdl_meaning.specs.Words.{Atom, Item, mark, word, scope_toks, items_toks, braced, fact_toks, named_fact_toks, IsTwice, StopsWhere, StopsAmong, EndsFacts, AreNoted, AreNamed, word_of, IsBegun, IsFlawlessBlock, AddsScope, IsEnded, IsNumberedAnew, scopes_of, needed, named_rules, first_texts, flat_map, is_some, fact_meaning, MeanEntries, AddsFact};
+ghost use Rattle.std.specs.Prelude.{◌≡◌, false, List, [], ◌∷◌, IfOk, IfErr, IsTrue, codes};
+ghost use Rattle.tsdl_meaning.specs.Words.{Atom, mark, word, scope_toks, items_toks, braced, fact_toks, named_fact_toks, IsTwice, StopsWhere, StopsAmong, EndsFacts, AreNoted, AreNamed, word_of, IsBegun, IsFlawlessBlock, AddsScope, IsEnded, IsNumberedAnew, scopes_of, needed, named_rules, first_texts, flat_map, is_some, fact_meaning, MeanEntries, AddsFact};
 ghost use Rattle.tsdl_grammar.specs.declared.token.Mark.TheVariants as marks;
 
 use crate::environment::has_fact;
@@ -61,7 +61,6 @@ pub(crate) fn judge_items(judging: &Judging, items: &[Item], at: usize) -> Resul
 fn judge_scope(judging: &Judging, names: &mut Names, scope: &Scope, at: usize) -> Result<(), Stop>
     ensures flawless { IfOk result (λ _. AddsScope judging.now.survey.now.known judging.now.kind names.old.names scope.now names.new.names) }
     ensures fault { IfErr result (StopsWhere (λ front. AreNamed front marks.Assign names.old.names) at (scope_toks scope.now)) }
-    ensures named { IfOk result (λ _. (front : List Atom) → AreNamed front marks.Assign names.old.names → AreNamed (front ++ scope_toks scope.now) marks.Assign names.new.names) }
 {
     let mut rows = scopes_of(judging.kind).iter();
     let Some(row) = rows.find(|row| has_words(&scope.name, row.0)) else {

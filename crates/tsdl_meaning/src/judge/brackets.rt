@@ -1,7 +1,7 @@
 //! The first flaw of a member's brackets: how many there are, how long they are, and which members they name.
 
-ghost use Rattle.std.specs.Prelude.{◌≡◌, ℕ, List, [], ◌∷◌, ◌++◌, None, IsSome, IfOk, IfErr, MatchOption};
-ghost use Rattle.tsdl_meaning.specs.Words.{flat_map, Bracket, Leaf, bracketed, word, bracket_toks, StopsAmong, StopsWhere, HasLengths, IsBehindBrackets, IsInBracket, Adds, PassesLimit, KeepsLimits, AreBrackets};
+ghost use Rattle.std.specs.Prelude.{◌≡◌, List, [], ◌∷◌, ◌++◌, None, IsSome, IfOk, IfErr, MatchOption};
+ghost use Rattle.tsdl_meaning.specs.Words.{flat_map, Bracket, Leaf, bracketed, word, bracket_toks, StopsAmong, StopsWhere, IsBehindBrackets, IsInBracket, Adds, PassesLimit, KeepsLimits, AreBrackets};
 ghost use Rattle.tsdl_grammar.specs.declared.tree.Bracket.TheVariants as brackets;
 
 use crate::judge::value::judge_number;
@@ -75,8 +75,7 @@ fn judge_bracket(
     at: usize,
 ) -> Result<(), Stop>
     ensures meant { IfOk result (λ _. (done : List Bracket) → AreBrackets before.now done lengths.old → AreBrackets before.now (done ++ bracket.now ∷ []) lengths.new) }
-    ensures fault { IfErr result (λ s. (done : List Bracket) → HasLengths lengths.old done → StopsWhere (IsBehindBrackets done) at (bracket_toks bracket.now) s) }
-    ensures added { IfOk result (λ _. (done : List Bracket) → HasLengths lengths.old done → HasLengths lengths.new (done ++ bracket.now ∷ [])) }
+    ensures fault { IfErr result (λ s. (done : List Bracket) → AreBrackets before.now done lengths.old → StopsWhere (IsBehindBrackets done) at (bracket_toks bracket.now) s) }
 {
     let place = at.saturating_add(1);
     match bracket {
@@ -101,7 +100,6 @@ fn judge_name(
 ) -> Result<(), Stop>
     ensures meant { IfOk result (λ _. (done : List Bracket) → AreBrackets before.now done lengths.old → AreBrackets before.now (done ++ brackets.Member name.now ∷ []) lengths.new) }
     ensures fault { IfErr result (StopsWhere IsInBracket at (word name.now ∷ [])) }
-    ensures added { IfOk result (λ _. (done : List Bracket) → HasLengths lengths.old done → HasLengths lengths.new (done ++ brackets.Member name.now ∷ [])) }
 {
     if lengths.is_sequence || lengths.count > 0 {
         let name = String::from_str(alloc, name.as_str())?;

@@ -1,7 +1,7 @@
 //! The first flaw of a member's kind: an integer, an enumeration or a string, and of its attributes.
 
-ghost use Rattle.std.specs.Prelude.{◌∷◌, ◌++◌, IsSome, IfOk, IfErr, ◌≡◌, List, [], IsTrue};
-ghost use Rattle.tsdl_meaning.specs.Words.{flat_map, kind_toks, entry_toks, next_entry_toks, word, attr_toks, attrs_toks, value_toks, entry_meaning, kind_meaning, StopsAmong, StopsWhere, IsBehindBrace, IsBehindName, IsBehindWord, AreRanges, AddsOwn, of_integer, tree_of, type_word, own_attrs, own_asked, Atom, is_some, order_value, base_value, clock_value, names_of, AreNamed, fits, is_fit};
+ghost use Rattle.std.specs.Prelude.{◌∷◌, ◌++◌, IsSome, IfOk, IfErr, ◌≡◌, IsTrue};
+ghost use Rattle.tsdl_meaning.specs.Words.{flat_map, kind_toks, entry_toks, next_entry_toks, word, attr_toks, attrs_toks, value_toks, entry_meaning, kind_meaning, StopsAmong, StopsWhere, IsBehindBrace, IsBehindName, IsBehindWord, AreRanges, AddsAttribute, is_among, words_of, of_integer, tree_of, type_word, own_attrs, own_asked, is_some, order_value, base_value, clock_value, names_of, AreNamed, fits, is_fit};
 ghost use Rattle.tsdl_grammar.specs.declared.token.Mark.TheVariants as marks;
 
 use crate::enumeration::{MAX_RANGES, rises};
@@ -117,9 +117,9 @@ fn judge_attribute(
     attribute: &Attribute,
     at: usize,
 ) -> Result<(), Stop>
-    ensures own { IfOk result (λ _. AddsOwn (own_attrs kind) (own_asked judging.now.survey.now.known kind) names.old.names attribute.now names.new.names) }
+    ensures among { IfOk result (λ _. IsTrue (is_among (own_attrs kind) (words_of attribute.now.name))) }
+    ensures adds { IfOk result (λ _. AddsAttribute (own_asked judging.now.survey.now.known kind) names.old.names attribute.now names.new.names) }
     ensures fault { IfErr result (StopsWhere (λ front. AreNamed front marks.Equals names.old.names) at (attr_toks attribute.now)) }
-    ensures named { IfOk result (λ _. (front : List Atom) → AreNamed front marks.Equals names.old.names → AreNamed (front ++ attr_toks attribute.now) marks.Equals names.new.names) }
 {
     if !is_among(attributes_of(kind), &attribute.name) {
         return Err(Stop::unsupported(judging.alloc, at, &attribute.name, Remedy::Nothing));

@@ -1,7 +1,7 @@
 //! The names that have stood so far.
 
-ghost use Rattle.std.specs.Prelude.{List, [], ◌∷◌, ◌++◌, IfOk, IfErr};
-ghost use Rattle.tsdl_meaning.specs.Words.{Mark, Atom, mark, name_toks, StopsWhere, AreNamed, AddsName};
+ghost use Rattle.std.specs.Prelude.{[], ◌∷◌, ◌++◌, IfOk, IfErr};
+ghost use Rattle.tsdl_meaning.specs.Words.{Mark, mark, name_toks, StopsWhere, AreNamed, HasNames, AddsName};
 
 use std::alloc::Global;
 use std::collections::BTreeSet;
@@ -16,7 +16,7 @@ pub(crate) struct Names {
 
 impl Names {
     pub(crate) fn new(alloc: Global) -> Names
-        ensures { (front : List Atom) (sign : Mark) → AreNamed front sign result.names }
+        ensures { HasNames result.names [] }
     {
         Names {
             names: BTreeSet::new(alloc),
@@ -27,7 +27,6 @@ impl Names {
     pub(crate) fn add(&mut self, alloc: Global, name: &Name, at: usize) -> Result<(), Stop>
         ensures fault { IfErr result (λ s. (sign : Mark) → StopsWhere (λ front. AreNamed front sign self.old.names) at (name_toks name.now ++ mark sign ∷ []) s) }
         ensures flawless { IfOk result (λ _. AddsName self.old.names name.now self.new.names) }
-        ensures added { IfOk result (λ _. (front : List Atom) (sign : Mark) → AreNamed front sign self.old.names → AreNamed (front ++ (name_toks name.now ++ mark sign ∷ [])) sign self.new.names) }
     {
         let written = dotted(alloc, name)?;
         if self.names.insert(written)? {

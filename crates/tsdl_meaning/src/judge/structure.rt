@@ -1,6 +1,6 @@
 //! The first flaw of a scope's structure: its members in order, then its alignment.
 
-ghost use Rattle.std.specs.Prelude.{◌≡◌, ◌<◌, false, List, [], ◌∷◌, ◌++◌, length, IfOk, IfErr};
+ghost use Rattle.std.specs.Prelude.{◌≡◌, ◌<◌, false, List, [], ◌∷◌, length, IfOk, IfErr};
 ghost use Rattle.tsdl_meaning.specs.Words.{Contains, names_in, Kind, MemberTree, word, member_toks, struct_toks, has_member, StopsAmong, StopsWhere, AddsMember, IsFlawless, AreMembers, IsBehindMembers, IsBehindKind};
 
 use crate::judge::block::Judging;
@@ -46,7 +46,6 @@ fn judge_member(
     at: usize,
 ) -> Result<(), Stop>
     ensures fault { IfErr result (λ s. (done : List MemberTree) → AreMembers done members.old → StopsWhere (IsBehindMembers done) at (member_toks tree.now) s) }
-    ensures added { IfOk result (λ _. (done : List MemberTree) → AreMembers done members.old → AreMembers (done ++ tree.now ∷ []) members.new) }
     ensures flawless { IfOk result (λ _. AddsMember judging.now.survey.now.known rule members.old tree.now members.new) }
 {
     judge_kind(judging, &tree.kind, at)?;

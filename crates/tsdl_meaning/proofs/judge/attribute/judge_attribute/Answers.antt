@@ -1,9 +1,8 @@
-use Rattle.std.proofs.Common.{◌≡◌, true, List, [], ◌∷◌, ◌++◌}
-use Rattle.tsdl_meaning.proofs.TextWords.{AddsAttribute, AreNamed, Atom, IsBegun, StopsWhere, asked_of, attr_toks, is_fit, mark, name_toks, value_toks}
+use Rattle.std.proofs.Common.{◌≡◌, true, List, ◌∷◌, ◌++◌}
+use Rattle.tsdl_meaning.proofs.TextWords.{AddsAttribute, AreNamed, Atom, IsBegun, StopsWhere, asked_of, attr_toks, is_fit, mark, value_toks}
 use Rattle.tsdl_grammar.specs.declared.token.Mark.TheVariants as marks
-use Rattle.tsdl_meaning.proofs.JudgedParts.{handed, err_from, ok_from, ok_map, stops_same}
-use Rattle.tsdl_meaning.proofs.BlockAttributes.{attr_opening, attr_rest}
-use Rattle.tsdl_meaning.proofs.StopsInAttributes.{named_behind}
+use Rattle.tsdl_meaning.proofs.JudgedParts.{handed, err_from, ok_map, stops_same}
+use Rattle.tsdl_meaning.proofs.StopsInAttributes.{opening, attr_parts}
 use Rattle.tsdl_meaning.proofs.judge.attribute.judge_attribute.Goals as goal
 
 pub returns-in_err-add-clause-fault : goal.returns-in_err-add-clause-fault
@@ -13,9 +12,8 @@ returns-in_err-add-clause-fault c = λ items.
     let P = λ (front : List Atom). IsBegun c.args.judging.now items front × AreNamed front marks.Equals c.args.names.now.names in
     handed c.from_residual.result stop (StopsWhere P c.args.at (attr_toks a)) c.from_residual.ensures.1
     (λ front behind p.
-    let rest = (value_toks a.value ++ (mark marks.Semicolon ∷ [])) ++ behind in
-    let opening = name_toks a.name ++ (mark marks.Equals ∷ []) in
-    stops_same front (attr_toks a ++ behind) (opening ++ rest) c.args.at stop (attr_opening a behind) (c.in_err-add.ensures.fault marks.Equals front rest p.1))
+    let rest = value_toks a.value ++ mark marks.Semicolon ∷ behind in
+    stops_same front (attr_toks a ++ behind) (opening a.name ++ rest) c.args.at stop (attr_parts a behind) (c.in_err-add.ensures.fault marks.Equals front rest p.1))
 
 pub returns-clause-fault : goal.returns-clause-fault
 returns-clause-fault c = λ items.
@@ -24,17 +22,10 @@ returns-clause-fault c = λ items.
     err_from c.judge_value.result (StopsWhere (IsBegun c.args.judging.now items) c.args.at (attr_toks a)) (StopsWhere P c.args.at (attr_toks a)) (λ stop h front behind p. h front behind p.0)
     (c.judge_value.ensures.fault items)
 
-pub returns-clause-named : goal.returns-clause-named
-returns-clause-named c =
-    let a = c.args.attribute.now in
-    ok_from c.judge_value.result (λ x. (front : List Atom) → AreNamed front marks.Equals c.args.names.now.names → AreNamed (front ++ attr_toks a) marks.Equals c.add.new.self.names)
-    (λ x front named.
-    named_behind front (attr_toks a) (name_toks a.name) (value_toks a.value ++ (mark marks.Semicolon ∷ [])) marks.Equals c.add.new.self.names (attr_rest a) (c.in_ok-add.ensures.added front marks.Equals named))
-
 pub returns-clause-flawless : goal.returns-clause-flawless
 returns-clause-flawless c =
     let a = c.args.attribute.now in
     let judging = c.args.judging.now in
     let asked = asked_of judging.kind judging.ledger.now in
-    ok_map c.judge_value.result (λ x. is_fit asked a ≡ true) (λ x. AddsAttribute judging.kind judging.ledger.now c.args.names.now.names a c.add.new.self.names)
+    ok_map c.judge_value.result (λ x. is_fit asked a ≡ true) (λ x. AddsAttribute asked c.args.names.now.names a c.add.new.self.names)
     (λ x fit. record { name = c.in_ok-add.ensures.flawless; fit = fit }) c.judge_value.ensures.fit

@@ -1,8 +1,9 @@
-use Rattle.std.proofs.Common.{arith, List, [], ◌∷◌, ◌++◌, take, ap, sym, subst, append_assoc, codes}
-use Rattle.tsdl_meaning.proofs.TextWords.{Atom, StopsAmong, behind_item, braced, flat_map, mark, named_fact_toks, take_all, word}
+use Rattle.std.proofs.Common.{arith, [], ◌∷◌, ◌++◌, take, refl, sym, subst, append_assoc, codes}
+use Rattle.tsdl_meaning.proofs.TextWords.{StopsAmong, behind_item, braced, flat_map, mark, named_fact_toks, take_all, word}
 use Rattle.tsdl_grammar.specs.declared.token.Mark.TheVariants as marks
-use Rattle.tsdl_meaning.proofs.FlawlessFacts.{Facts, next_fact, no_facts, facts_mean}
-use Rattle.tsdl_meaning.proofs.JudgedParts.{handed, stops_item}
+use Rattle.tsdl_meaning.proofs.FlawlessFacts.{Facts, fact_more, no_facts, facts_mean}
+use Rattle.tsdl_meaning.proofs.JudgedParts.{handed, in_item}
+use Rattle.tsdl_meaning.proofs.Fronts.{next_item}
 use Rattle.tsdl_meaning.proofs.judge.block.judge_environment.Goals as goal
 
 pub returns-in_err-judge_entry-clause-fault : goal.returns-in_err-judge_entry-clause-fault
@@ -15,8 +16,8 @@ returns-in_err-judge_entry-clause-fault c =
     let stop = c.in_err-judge_entry.field-0.0 in
     handed c.from_residual.result stop (StopsAmong c.args.at toks) c.from_residual.ensures.1
     (λ front behind.
-    stops_item named_fact_toks facts i c.index-facts-index.result front (toks ++ behind) opening (mark marks.CloseBrace ∷ behind) c.args.at c.loop-index.next stop (omega arith) c.index-facts-index.is
-    (ap (λ (l : List Atom). opening ++ l) (append_assoc (flat_map named_fact_toks facts) (mark marks.CloseBrace ∷ []) behind)) c.loop-index.invariant.place
+    in_item named_fact_toks facts i c.index-facts-index.result toks opening (mark marks.CloseBrace ∷ []) front behind c.args.at c.loop-index.next stop (omega arith) c.index-facts-index.is refl
+    c.loop-index.invariant.place
     (λ after. c.in_err-judge_entry.ensures.fault (front ++ (opening ++ before)) after (front ++ word (codes "env") ∷ [], sym (append_assoc front (word (codes "env") ∷ []) (mark marks.OpenBrace ∷ before)))))
 
 pub loop-index-preserved : goal.loop-index-preserved
@@ -27,8 +28,8 @@ loop-index-preserved c =
           behind_item named_fact_toks c.args.facts.now c.loop-index.index c.index-facts-index.result opening c.args.at c.loop-index.next c.length.result _ (omega arith) c.index-facts-index.is
           c.loop-index.invariant.place c.length.ensures c.saturating_add-next-in-loop-index.ensures;
       facts =
-          next_fact c.args.facts.now c.loop-index.index c.index-facts-index.result (omega arith) c.index-facts-index.is c.loop-index.invariant.facts
-          c.in_ok-judge_entry.ensures.flawless;
+          next_item Facts c.args.facts.now c.loop-index.index c.index-facts-index.result (omega arith) c.index-facts-index.is
+          (fact_more (take c.loop-index.index c.args.facts.now) c.index-facts-index.result c.loop-index.invariant.facts c.in_ok-judge_entry.ensures.flawless);
     }
 
 pub returns-clause-flawless : goal.returns-clause-flawless

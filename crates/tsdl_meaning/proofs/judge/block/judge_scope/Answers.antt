@@ -1,15 +1,14 @@
-use Rattle.std.proofs.Common.{◌≡◌, ℕ, arith, List, [], ◌∷◌, ◌++◌, Some, Bor, option_map, sym, ap, ◌∙◌, subst, length-append, rules, tests}
-use Rattle.tsdl_meaning.proofs.TextWords.{AreNamed, Atom, ScopeRule, StopsWhere, YieldsList-from_slice, find_from_yields_List, mark, name_toks, rule_in, same_words, scope_toks, stops_after, struct_toks, texts_of, words_of}
+use Rattle.std.proofs.Common.{◌≡◌, ℕ, List, [], ◌∷◌, ◌++◌, Some, Bor, option_map, refl, sym, ap, ◌∙◌, subst, rules, tests}
+use Rattle.tsdl_meaning.proofs.TextWords.{AreNamed, Atom, ScopeRule, StopsWhere, YieldsList-from_slice, behind_more, find_from_yields_List, mark, name_toks, rule_in, same_words, scope_toks, stops_after, struct_toks, texts_of, words_of}
 use Rattle.tsdl_grammar.specs.declared.token.Mark.TheVariants as marks
-use Rattle.tsdl_meaning.proofs.JudgedParts.{handed, stops_same}
-use Rattle.tsdl_meaning.proofs.StopsInAttributes.{named_behind}
-use Rattle.tsdl_meaning.proofs.BlockAttributes.{scope_parts, scope_opening, scope_rest, rule_found}
+use Rattle.tsdl_meaning.proofs.JudgedParts.{behind_first, handed, stops_same}
+use Rattle.tsdl_meaning.proofs.BlockAttributes.{scope_parts, scope_opening, rule_found}
 use Rattle.tsdl_meaning.proofs.judge.block.judge_scope.Goals as goal
 
 pub returns-in_default-clause-fault : goal.returns-in_default-clause-fault
 returns-in_default-clause-fault c = λ front behind named.
     let s = c.args.scope.now in
-    let rest = mark marks.Assign ∷ (struct_toks s.structure ++ (mark marks.Semicolon ∷ behind)) in
+    let rest = mark marks.Assign ∷ (struct_toks s.structure ++ mark marks.Semicolon ∷ behind) in
     stops_same front (scope_toks s ++ behind) (name_toks s.name ++ rest) c.args.at c.unsupported.result (scope_parts s behind) (c.unsupported.ensures front rest)
 
 pub returns-in_err-add-clause-fault : goal.returns-in_err-add-clause-fault
@@ -19,8 +18,8 @@ returns-in_err-add-clause-fault c =
     let P = λ (front : List Atom). AreNamed front marks.Assign c.args.names.now.names in
     handed c.from_residual.result stop (StopsWhere P c.args.at (scope_toks s)) c.from_residual.ensures.1
     (λ front behind named.
-    let opening = name_toks s.name ++ (mark marks.Assign ∷ []) in
-    let rest = struct_toks s.structure ++ (mark marks.Semicolon ∷ behind) in
+    let opening = name_toks s.name ++ mark marks.Assign ∷ [] in
+    let rest = struct_toks s.structure ++ mark marks.Semicolon ∷ behind in
     stops_same front (scope_toks s ++ behind) (opening ++ rest) c.args.at stop (scope_opening s behind) (c.in_err-add.ensures.fault marks.Assign front rest named))
 
 pub returns-in_err-judge_structure-clause-fault : goal.returns-in_err-judge_structure-clause-fault
@@ -30,18 +29,13 @@ returns-in_err-judge_structure-clause-fault c =
     let P = λ (front : List Atom). AreNamed front marks.Assign c.args.names.now.names in
     handed c.from_residual-in_err-judge_structure.result stop (StopsWhere P c.args.at (scope_toks s)) c.from_residual-in_err-judge_structure.ensures.1
     (λ front behind named.
-    let opening = name_toks s.name ++ (mark marks.Assign ∷ []) in
-    let rest = struct_toks s.structure ++ (mark marks.Semicolon ∷ behind) in
-    let l = length-append (name_toks s.name) (mark marks.Assign ∷ []) in
-    stops_after front (scope_toks s ++ behind) opening rest c.args.at c.saturating_add-behind.result stop (scope_opening s behind)
-    (λ fits. let m = c.length.ensures (omega (arith, l)) in omega (arith, l, m))
+    let name = name_toks s.name in
+    let opening = name ++ mark marks.Assign ∷ [] in
+    let passed = c.saturating_add.result in
+    let place = c.saturating_add-behind.result in
+    stops_after front (scope_toks s ++ behind) opening (struct_toks s.structure ++ mark marks.Semicolon ∷ behind) c.args.at place stop (scope_opening s behind)
+    (behind_more name (mark marks.Assign ∷ []) c.args.at passed 1 place (behind_first name c.args.at c.length.result passed c.length.ensures c.saturating_add.ensures) (λ fits. refl) c.saturating_add-behind.ensures)
     (c.in_err-judge_structure.ensures.fault (front ++ opening) (mark marks.Semicolon ∷ behind)))
-
-pub returns-clause-named : goal.returns-clause-named
-returns-clause-named c = λ front named.
-    let s = c.args.scope.now in
-    named_behind front (scope_toks s) (name_toks s.name) (struct_toks s.structure ++ (mark marks.Semicolon ∷ [])) marks.Assign c.add.new.self.names (scope_rest s)
-    (c.in_ok-add.ensures.added front marks.Assign named)
 
 pub returns-clause-flawless : goal.returns-clause-flawless
 returns-clause-flawless c = record {

@@ -1,8 +1,11 @@
-use Rattle.std.proofs.Common.{List, arith, ◌∷◌, ◌++◌, subst, codes}
-use Rattle.tsdl_meaning.proofs.TextWords.{Attribute, StopsAmong, attr, attr_toks, attrs_toks, behind_item, own_asked, own_attrs, take_all, type_word, word}
-use Rattle.tsdl_meaning.proofs.JudgedParts.{handed}
-use Rattle.tsdl_meaning.proofs.StopsInAttributes.{list_opening, list_before, in_attribute, next_named, at_close}
-use Rattle.tsdl_meaning.proofs.FlawlessTypes.{Own, next_own, type_means, seen}
+use Rattle.std.proofs.Common.{List, [], arith, ◌∷◌, ◌++◌, map, take, refl, sym, ◌∙◌, subst, codes}
+use Rattle.std.proofs.lemmas.List.Concat.{flat_map_single}
+use Rattle.tsdl_grammar.specs.declared.token.Mark.TheVariants as marks
+use Rattle.tsdl_meaning.proofs.TextWords.{Attribute, HasNames, StandsBehind, StopsAmong, attr, attr_toks, attrs_toks, behind_item, flat_map, mark, map-id, own_asked, own_attrs, take_all, type_word, word, written}
+use Rattle.tsdl_meaning.proofs.Fronts.{next_item}
+use Rattle.tsdl_meaning.proofs.JudgedParts.{handed, in_item, in_part}
+use Rattle.tsdl_meaning.proofs.StopsInAttributes.{are_named, attribute_named, list_opening}
+use Rattle.tsdl_meaning.proofs.FlawlessTypes.{Own, own_more, type_means, seen}
 use Rattle.tsdl_meaning.proofs.judge.kind.judge_attributes.Goals as goal
 use Rattle.tsdl_meaning.proofs.judge.kind.judge_attributes.Goals.{in-Integer+else-is_none, in-Text-1}
 
@@ -10,34 +13,48 @@ pub returns-in_err-judge_attribute-clause-fault : goal.returns-in_err-judge_attr
 returns-in_err-judge_attribute-clause-fault c =
     let w = type_word c.args.kind in
     let attrs = c.args.attributes.now in
+    let toks = word w ∷ attrs_toks attrs in
+    let done = take c.loop-attribute.attribute-index attrs in
+    let names = c.loop-attribute.names.names in
     let stop = c.in_err-judge_attribute.field-0.0 in
-    handed c.from_residual.result stop (StopsAmong c.args.at (word w ∷ attrs_toks attrs)) c.from_residual.ensures.1
+    let kept =
+    subst (λ (l : List Attribute). HasNames names (map (λ (a : Attribute). written a.name) l)) (sym (flat_map_single (λ (a : Attribute). a) done ∙ map-id done)) c.loop-attribute.invariant.own.attributes.named.kept
+    in
+    handed c.from_residual.result stop (StopsAmong c.args.at toks) c.from_residual.ensures.1
     (λ front behind.
-    in_attribute w attrs c.loop-attribute.attribute-index c.attribute-item.result c.loop-attribute.names.names front behind c.args.at c.loop-attribute.next stop (omega arith) c.attribute-item.is
-    c.loop-attribute.invariant.stands c.loop-attribute.invariant.named c.in_err-judge_attribute.ensures.fault)
+    in_item attr_toks attrs c.loop-attribute.attribute-index c.attribute-item.result toks (list_opening w) (mark marks.CloseBrace ∷ []) front behind c.args.at c.loop-attribute.next stop (omega arith)
+    c.attribute-item.is refl c.loop-attribute.invariant.stands
+    (λ after.
+    c.in_err-judge_attribute.ensures.fault (front ++ (list_opening w ++ flat_map attr_toks done)) after
+    (are_named attr_toks (λ a. a ∷ []) (λ a. a.name) marks.Equals front (list_opening w) names done attribute_named kept)))
 
 pub loop-attribute-preserved : goal.loop-attribute-preserved
 loop-attribute-preserved c =
-    let w = type_word c.args.kind in
+    let allowed = own_attrs c.args.kind in
+    let asked = own_asked c.args.judging.now.survey.now.known c.args.kind in
     let attrs = c.args.attributes.now in
     let i = c.loop-attribute.attribute-index in
     let a = c.attribute-item.result in
+    let old = c.loop-attribute.names.names in
+    let new = c.judge_attribute.new.names.names in
     record {
       stands =
-          behind_item attr_toks attrs i a (list_opening w) c.args.at c.loop-attribute.next c.length.result c.saturating_add-next-in-loop-attribute.result (omega arith) c.attribute-item.is
+          behind_item attr_toks attrs i a (list_opening (type_word c.args.kind)) c.args.at c.loop-attribute.next c.length.result c.saturating_add-next-in-loop-attribute.result (omega arith) c.attribute-item.is
           c.loop-attribute.invariant.stands c.length.ensures c.saturating_add-next-in-loop-attribute.ensures;
-      named = λ front.
-          next_named w attrs i a c.judge_attribute.new.names.names front (omega arith) c.attribute-item.is
-          (c.in_ok-judge_attribute.ensures.named (front ++ list_before w attrs i) (c.loop-attribute.invariant.named front));
       own =
-          next_own (own_attrs c.args.kind) (own_asked c.args.judging.now.survey.now.known c.args.kind) attrs i a c.loop-attribute.names.names c.judge_attribute.new.names.names (omega arith) c.attribute-item.is
-          c.loop-attribute.invariant.own c.in_ok-judge_attribute.ensures.own;
+          next_item (λ (l : List Attribute). Own allowed asked l new) attrs i a (omega arith) c.attribute-item.is
+          (own_more allowed asked (take i attrs) a old new c.loop-attribute.invariant.own c.in_ok-judge_attribute.ensures.among c.in_ok-judge_attribute.ensures.adds);
     }
 
 pub returns-in-Integer-clause-fault : goal.returns-in-Integer-clause-fault
 returns-in-Integer-clause-fault c = λ front behind.
-    at_close (type_word c.args.kind) c.args.attributes.now c.loop-attribute.attribute-index front behind c.args.at c.loop-attribute.next c.at_atom.result (omega arith) c.loop-attribute.invariant.stands
-    (λ f after a. c.at_atom.ensures f after a tt)
+    let w = type_word c.args.kind in
+    let attrs = c.args.attributes.now in
+    let next = c.loop-attribute.next in
+    let pre = list_opening w ++ flat_map attr_toks attrs in
+    in_part (word w ∷ attrs_toks attrs) pre (mark marks.CloseBrace ∷ []) [] front behind c.args.at next c.at_atom.result refl
+    (subst (λ (l : List Attribute). StandsBehind c.args.at (list_opening w ++ flat_map attr_toks l) next) (take_all c.loop-attribute.attribute-index attrs (omega arith)) c.loop-attribute.invariant.stands)
+    (c.at_atom.ensures (front ++ pre) behind (mark marks.CloseBrace) tt)
 
 pub returns-clause-meant : goal.returns-clause-meant
 returns-clause-meant c =

@@ -7,4 +7,4 @@ returns-in-len2-clause-fault c = λ front behind.
     let e = ap (λ (ws : List (List ℕ)). length ws) c.as_slice.ensures in
     let some : 1 ≤ length c.in-Name.name.rest = omega arith in
     rw c.in-Name.is
-    (in_second c.in-Name.name front behind c.args.at c.saturating_add-place.result c.at_atom.result some c.saturating_add-place.ensures (λ f after a. c.at_atom.ensures f after a tt))
+    (in_second c.in-Name.name.first c.in-Name.name.rest front behind c.args.at c.saturating_add-place.result c.at_atom.result some c.saturating_add-place.ensures (λ f after a. c.at_atom.ensures f after a tt))

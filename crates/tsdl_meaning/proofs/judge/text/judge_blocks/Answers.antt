@@ -1,9 +1,10 @@
 use Rattle.std.proofs.Common.{arith, List, [], ◌∷◌, ◌++◌, take, refl, sym, ◌∙◌, subst, append_assoc}
 use Rattle.tsdl_meaning.proofs.TextWords.{AreNoted, Atom, Block, StandsBehind, StopsIn, append-nil, behind_more, block_and_semicolon, block_toks, flat_next, mark, take_all, text_toks}
 use Rattle.tsdl_grammar.specs.declared.token.Mark.TheVariants as marks
-use Rattle.tsdl_meaning.proofs.JudgedParts.{handed, holds_last, stops_same, stops_item}
+use Rattle.tsdl_meaning.proofs.JudgedParts.{handed, holds_last, in_item, stops_same}
+use Rattle.tsdl_meaning.proofs.Fronts.{next_item}
 use Rattle.tsdl_meaning.proofs.JudgedLedgers.{at_end, noted_more}
-use Rattle.tsdl_meaning.proofs.FlawlessTexts.{Text, next_block, no_blocks, sizes_missed}
+use Rattle.tsdl_meaning.proofs.FlawlessTexts.{Text, block_more, no_blocks, sizes_missed}
 use Rattle.tsdl_meaning.proofs.judge.text.judge_blocks.Goals as goal
 
 pub returns-in_err-judge_block-clause-fault : goal.returns-in_err-judge_block-clause-fault
@@ -16,10 +17,11 @@ returns-in_err-judge_block-clause-fault c =
     let next = c.loop-block.at in
     let stop = c.in_err-judge_block.field-0.0 in
     handed c.from_residual.result stop (StopsIn [] 0 toks) c.from_residual.ensures.1
-    (stops_item block_and_semicolon blocks i b [] toks [] [] 0 next stop (omega arith) c.block-item.is (sym (append-nil toks)) c.loop-block.invariant.place
+    (subst (λ (l : List Atom). StopsIn [] 0 l stop) (append-nil toks)
+    (in_item block_and_semicolon blocks i b toks [] [] [] [] 0 next stop (omega arith) c.block-item.is (sym (append-nil toks)) c.loop-block.invariant.place
     (λ after.
     stops_same before (block_and_semicolon b ++ after) (block_toks b ++ (mark marks.Semicolon ∷ after)) next stop (append_assoc (block_toks b) (mark marks.Semicolon ∷ []) after)
-    (c.in_err-judge_block.ensures.fault before (mark marks.Semicolon ∷ after) c.loop-block.invariant.noted)))
+    (c.in_err-judge_block.ensures.fault before (mark marks.Semicolon ∷ after) c.loop-block.invariant.noted))))
 
 pub loop-block-preserved : goal.loop-block-preserved
 loop-block-preserved c =
@@ -40,8 +42,8 @@ loop-block-preserved c =
           subst (λ (l : List Atom). AreNoted l c.add.new.self) e
           (noted_more (before ++ block_toks b) closing c.add.new.self (c.in_ok-add.ensures.noted (before ++ block_toks b) (noted_more before (block_toks b) c.loop-block.ledger c.loop-block.invariant.noted) (holds_last before (block_toks b))));
       text =
-          next_block c.args.survey.now.known c.loop-block.ledger c.add.new.self blocks i b (omega arith) c.block-item.is c.loop-block.invariant.text
-          c.in_ok-judge_block.ensures.flawless c.in_ok-add.ensures.adds;
+          next_item (λ (bs : List Block). Text c.args.survey.now.known c.add.new.self bs) blocks i b (omega arith) c.block-item.is
+          (block_more c.args.survey.now.known c.loop-block.ledger c.add.new.self (take i blocks) b c.loop-block.invariant.text c.in_ok-judge_block.ensures.flawless c.in_ok-add.ensures.adds);
     }
 
 pub returns-clause-end : goal.returns-clause-end
