@@ -6,7 +6,7 @@ use Rattle.conf_laws.proofs.Numbers.{whole_there, lowest_end, highest_end, ReadS
 use Rattle.conf_laws.proofs.Properties.{IsWithin, AreWithin, object_within, entry_within, optional_within, all_within, fitting_parts, flaws_in, names_of, sorted_names, names_counted, MapPlace, is_map, Property, leads, needed_by, OwnPlace, is_own, is_object}
 use Rattle.conf_laws.proofs.Readings.{Says, proved_says, under_no_test, was_so, all_joined, same_natural, word_there, optional_found, by_found, by_test}
 use Rattle.conf_laws.proofs.Sound.{RowsSound, ContentSound, object_sound, content_sound, first_item, first_entry, held_at, needed_sound, optional_sound, rows_sound}
-use Rattle.conf_laws.proofs.Words.{IsPair, entries_of, Place, At, WholeOrText, Whole, Text, Content, member_flaws, item_flaws, inside, behind, itself_of, form_of, Known, with_taken, key_fits, count_of, ranges_fit, key_of, key_by, names_beside, with_names, end_of, range_of, is_inside, inside_of, natural_in, numbers_of, numbers_in, all_numbers, item_content, leaf_of, whole_or_text, fits, here, AllAbove, IsInOrder, whole_of, OutOfRange, both_read, is_passed, name_of, is_reserved, plain_name_of, is_printable, Members, Data, number, array, Items, no_items, item, no_members, member, object, items_len, as_integer, as_array, optional, as_natural, string, members_len, nat_tests, and_parts, or_parts, leb-true, nat_list_cmp_total, tied_itself, T_from_true, All-from_recursion, All-weaker, slice_cmp, le_z_yes, list_any, option_map_or, AllByRecursion, bytes_eq, length-map, map-append, whole, low, high, ranges_in, mappings_of as ranges_of, labels_in, enumeration, integer, size_of, object_at, properties, LabelsInOrder, lowest, highest, IsRangeOf, IsEnumeration, is_name as is_identifier, unused_keywords, used_keywords, IsConfigName, IsPlainName, IsConfigText, IntType, Mapping, clock_type, clocks_in, clock_types, entry_value, entries_in, environment, natural, word, InByteOrder, IsEnvironmentValue, IsClockType, ClockType, EnvironmentEntry, integer_made as made, integer_align as align_of, default_align, counted_ranges}
+use Rattle.conf_laws.proofs.Words.{IsPair, entries_of, Place, At, WholeOrText, Whole, Text, Content, member_flaws, item_flaws, inside, behind, itself_of, form_of, Known, with_taken, key_fits, count_of, ranges_fit, key_of, key_by, names_beside, with_names, end_of, range_of, is_inside, inside_of, natural_in, numbers_of, numbers_in, all_numbers, item_content, leaf_of, whole_or_text, fits, here, AllAbove, IsInOrder, whole_of, OutOfRange, both_read, is_passed, name_of, is_reserved, plain_name_of, is_printable, Members, Data, number, array, Items, no_items, item, no_members, member, object, items_len, as_integer, as_array, optional, as_natural, string, members_len, nat_tests, and_parts, or_parts, leb-true, nat_list_cmp_total, tied_itself, T_from_true, All-from_recursion, All-weaker, slice_cmp, le_z_yes, list_any, option_map_or, AllByRecursion, bytes_eq, length-map, whole, low, high, ranges_in, mappings_of as ranges_of, labels_in, enumeration, integer, size_of, object_at, properties, LabelsInOrder, lowest, highest, IsRangeOf, IsEnumeration, is_name as is_identifier, unused_keywords, used_keywords, IsConfigName, IsPlainName, IsConfigText, IntType, Mapping, clock_type, clocks_in, clock_types, entry_value, entries_in, environment, natural, word, InByteOrder, IsEnvironmentValue, IsClockType, ClockType, EnvironmentEntry, integer_made as made, integer_align as align_of, default_align, counted_ranges}
 use Rattle.conf_laws.proofs.Words.places
 
 pub config_name : (name : List ℕ) → name_of name ≡ Ok tt → IsConfigName name
@@ -256,12 +256,6 @@ none_under named good = record { names_are = refl; items = tt }
 
 pub one_under : {A : Type 0} (named : A → List ℕ) (good : A → Type 0) (name : List ℕ) (names : List (List ℕ)) (x : A) (xs : List A) → named x ≡ name → good x → AreUnder named good names xs → AreUnder named good (name ∷ names) (x ∷ xs)
 one_under named good name names x xs is one h = record { names_are = ap (λ n. n ∷ map named xs) is ∙ ap (λ ns. name ∷ ns) h.names_are; items = (one, h.items) }
-
-pub last_under : {A : Type 0} (named : A → List ℕ) (good : A → Type 0) (name : List ℕ) (names : List (List ℕ)) (x : A) (xs : List A) → named x ≡ name → good x → AreUnder named good names xs → AreUnder named good (names ++ name ∷ []) (xs ++ x ∷ [])
-last_under named good name names x xs is one h = record {
-  names_are = map-append named xs (x ∷ []) ∙ ap (λ ns. ns ++ named x ∷ []) h.names_are ∙ ap (λ n. names ++ n ∷ []) is;
-  items = all_joined good xs (x ∷ []) h.items (one, tt);
-}
 
 pub map_allowed : {A : Type 0} (named : A → List ℕ) (good : A → Type 0) (most : ℕ) (ms : Members) (xs : List A) → IsInOrder ms → nat_le (members_len ms) most ≡ true → AreUnder named good (names_of ms) xs → AreAllowed named good most xs
 map_allowed named good most ms xs order few h =

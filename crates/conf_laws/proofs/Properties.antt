@@ -1,9 +1,9 @@
 -- What the table says of the properties, objects and maps that are read: each property at its place, with what it holds. And what stands at
 -- the properties of an object, as entries of a map, and as items of a list, where no limit is passed and names are in order.
-use Rattle.std.proofs.Common.{◌≡◌, ◌++◌, ℕ, Bool, true, false, List, [], Some, refl, subst, suc, ◌∷◌, length, Less, nat_cmp, ap, ◌&&◌, Option, sym, pos, option_map, option_and_then, unwrap_or, nat_le, le-leb, arith, codes, negsuc}
+use Rattle.std.proofs.Common.{◌≡◌, ◌++◌, ℕ, Bool, true, false, List, [], Some, refl, subst, suc, ◌∷◌, length, Less, nat_cmp, ap, ◌&&◌, Option, sym, pos, option_and_then, unwrap_or, nat_le, le-leb, arith, codes, negsuc}
 use Rattle.conf_laws.proofs.Readings.{at_found, by_found}
 use Rattle.conf_laws.proofs.Sound.{both_none, first_none, optional_there, optional_sound, Leads, IsMapOf, IsObject, held_at}
-use Rattle.conf_laws.proofs.Words.{content_under, entries_of, presence_under, Place, At, Content, Needed, rows_of, Whole, Text, Level, WholeOrText, Presence, Entries, told_by, member_flaws, itself_of, Known, inside, behind, within_limit, fits, inner_limits, member_limits, key_fits, content_limits, item_limits, place_fits, arrays_fit, at_most, count_of, ranges_fit, item_content, place_of_properties, resolved_content, is_left_out, is_needed, form_of, is_position, own_place, Flaw, key, within, index, AllAbove, IsInOrder, Ascends, MembersAscend, ItemsAscend, optional, Data, Members, member, Items, item, no_members, array, object, members_len, get_member, as_object, and_parts, option_map_or, slice_cmp, IsStrictlySortedBy, AllByRecursion, object_at, properties, InByteOrder}
+use Rattle.conf_laws.proofs.Words.{content_under, entries_of, presence_under, Place, At, Content, Needed, rows_of, Whole, Text, Level, WholeOrText, Entries, told_by, member_flaws, itself_of, Known, inside, behind, within_limit, fits, inner_limits, member_limits, key_fits, content_limits, item_limits, place_fits, arrays_fit, at_most, count_of, ranges_fit, item_content, place_of_properties, resolved_content, is_left_out, form_of, is_position, own_place, Flaw, key, within, index, AllAbove, IsInOrder, Ascends, MembersAscend, ItemsAscend, optional, Data, Members, member, Items, item, no_members, array, object, members_len, get_member, as_object, and_parts, and-false, bytes_eq, option_map_or, slice_cmp, IsStrictlySortedBy, AllByRecursion, object_at, properties, InByteOrder}
 use Rattle.conf_laws.proofs.Words.contents
 use Rattle.conf_laws.proofs.Words.places
 
@@ -59,17 +59,10 @@ unfolding behind resolved_content content_under presence_under entries_of rows_o
 leads Property.trace = record { plain = λ d k. refl; resolved = refl; under = refl }
 leads _ = record { plain = λ d k. refl; resolved = refl; under = refl }
 
-presence_of : {b : Bool} {place : Place} {name : List ℕ} {content : Content} → Property b place name content → option_map (λ p. is_needed p) (presence_under place name) ≡ Some b
-unfolding presence_under rows_of
-presence_of Property.trace = refl
-presence_of _ = refl
-
-needed_only : (o : Option Presence) → option_map (λ p. is_needed p) o ≡ Some true → o ≡ Some Needed
-needed_only (Some Needed) e = refl
-needed_only _ e = absurd cc
-
 pub needed_by : {place : Place} {name : List ℕ} {content : Content} → Property true place name content → presence_under place name ≡ Some Needed
-needed_by p = needed_only _ (presence_of p)
+unfolding presence_under rows_of
+needed_by Property.trace = refl
+needed_by _ = refl
 
 -- a place whose rows are its own, and whether objects of any kind stand there
 pub data OwnPlace : Bool → Place → Type 0 where
@@ -114,9 +107,9 @@ pub data MapPlace : Place → Content → Type 0 where
   entry : MapPlace places.Entry (At places.Member)
 
 pub is_map : {place : Place} {content : Content} → MapPlace place content → IsMapOf place content
-unfolding content_under presence_under entries_of rows_of is_left_out
-is_map MapPlace.environment = record { under = λ name. refl; inherits_none = refl; stays = λ name d. refl }
-is_map _ = record { under = λ name. refl; inherits_none = refl; stays = λ name d. refl }
+unfolding resolved_content content_under presence_under entries_of rows_of is_left_out
+is_map MapPlace.environment = record { under = λ name. refl; resolved = λ name. rw (and-false (bytes_eq name (codes "$inherit"))) refl; stays = λ name d. refl }
+is_map _ = record { under = λ name. refl; resolved = λ name. rw (and-false (bytes_eq name (codes "$inherit"))) refl; stays = λ name d. refl }
 
 -- ---- no limit is passed, and names are in order
 

@@ -1,8 +1,8 @@
 -- What an object and its properties are that have no flaw: its class may stand where it stands, a needed property is there, and each
 -- property that is there is what its row asks for.
-use Rattle.std.proofs.Common.{◌&&◌, codes, unwrap_or, arith, ◌≡◌, ◌++◌, ℕ, Bool, true, false, cond, List, [], ◌∷◌, map, Option, Some, None, Result, Ok, Err, refl, sym, subst, ◌∙◌, suc, option_map, option_and_then, ap}
+use Rattle.std.proofs.Common.{codes, unwrap_or, arith, ◌≡◌, ◌++◌, ℕ, Bool, true, false, cond, List, [], ◌∷◌, map, Option, Some, None, Result, Ok, Err, refl, sym, subst, ◌∙◌, suc, option_map, option_and_then, ap}
 use Rattle.conf_laws.proofs.Readings.{at_found, optional_found, by_found, by_test}
-use Rattle.conf_laws.proofs.Words.{class_words, class_in, admits_class, presence_under, Told, rows_of, row_in, content_under, Place, At, Content, Needed, Presence, class_named, class_of, class_said, told_by, class_rule, all_there, resolved_content, is_left_out, left_out, is_needed, is_null, property_flaws, inner_flaws, member_flaws, content_flaws, item_flaws, rows_there, row_there, orders_there, may_inherit, admitted, other_class, itself_of, any_object, Known, inside, behind, with_taken, key_of, with_names, place_of_properties, item_content, is_position, own_place, shape_of, is_unsigned_integer, Flaw, key, within, index, here, optional, given, ◌>>=◌, at, needed, text_of, wanted_found, found_there, both_read, read_there, is_passed, Data, null, object, Members, member, Items, item, get_member, as_object, as_str, nat_tests, and-false, bytes_eq-Decides, bytes_eq, object_at as object_in, ⊤}
+use Rattle.conf_laws.proofs.Words.{class_words, class_in, admits_class, presence_under, Told, rows_of, row_in, content_under, Place, At, Content, Needed, Presence, class_named, class_of, class_said, told_by, class_rule, all_there, resolved_content, is_left_out, left_out, is_needed, is_null, property_flaws, inner_flaws, member_flaws, content_flaws, item_flaws, rows_there, row_there, orders_there, admitted, other_class, itself_of, any_object, Known, inside, behind, with_taken, key_of, with_names, place_of_properties, item_content, is_position, own_place, shape_of, is_unsigned_integer, Flaw, key, within, index, here, optional, given, ◌>>=◌, at, needed, text_of, wanted_found, found_there, both_read, read_there, is_passed, Data, null, object, Members, member, Items, item, get_member, as_object, as_str, nat_tests, bytes_eq-Decides, bytes_eq, object_at as object_in, ⊤}
 use Rattle.conf_laws.proofs.Words.places
 use Rattle.conf_laws.proofs.Words.contents
 
@@ -178,25 +178,16 @@ needed_sound k place name content ms leads is h =
 
 -- ---- the entries of a map
 
--- where nothing may be inherited, each property is as the table says
-pub nothing_inherited : (place : Place) (name : List ℕ) → may_inherit place ≡ false → resolved_content place name ≡ content_under place name
-unfolding resolved_content
-nothing_inherited place name own =
-    ap (λ m. cond (bytes_eq name (codes "$inherit") && m) None (content_under place name)) own ∙ ap (λ b. cond b None (content_under place name)) (and-false (bytes_eq name (codes "$inherit")))
-
--- each entry of a map is such, and none inherits or is left out
+-- each entry of a map is such, and none is left out
 pub record IsMapOf (place : Place) (content : Content) : Type 0 where
   pub under : (name : List ℕ) → content_under place name ≡ Some content
-  pub inherits_none : may_inherit place ≡ false
+  pub resolved : (name : List ℕ) → resolved_content place name ≡ Some content
   pub stays : (name : List ℕ) (d : Data) → is_left_out place name d ≡ false
-
-pub map_content : (place : Place) (name : List ℕ) (content : Content) → IsMapOf place content → resolved_content place name ≡ Some content
-map_content place name content is = nothing_inherited place name is.inherits_none ∙ is.under name
 
 pub first_entry : (k : Known) (place : Place) (name : List ℕ) (content : Content) (d : Data) (ms : Members) → IsMapOf place content → member_flaws k place (member name d ms) ≡ []
     → PropertySound k place name content d × (member_flaws (behind place d k) place ms ≡ [])
 first_entry k place name content d ms is e =
-    let both = first_flaws k place name d ms e in (property_here k place name content d (map_content place name content is) (is.stays name d) both.0, both.1)
+    let both = first_flaws k place name d ms e in (property_here k place name content d (is.resolved name) (is.stays name d) both.0, both.1)
 
 admitted_class : (place : Place) (o : Option Place) → admitted place o ≡ Ok tt → (class : Place) × (o ≡ Some class) × (admits_class place class ≡ true)
 admitted_class place None e = absurd cc

@@ -1,7 +1,7 @@
 -- What a configuration says that has no flaw, from its features to the trace around them; and that what it says is what the rules allow,
 -- where it also passes no limit, its names are in order, and it keeps the rules over the whole.
 use Rattle.std.proofs.Common.{◌≡◌, ℕ, ◌&&◌, Bool, true, false, cond, List, Option, Some, None, is_some, IsSome, refl, sym, ap, subst, ◌∙◌, append_assoc, pos, ◌<◌, ◌^◌, [], map, ◌∷◌, ◌++◌, Ok, Err, arith, nat_le, codes, option_map, option_and_then, unwrap_or}
-use Rattle.conf_laws.proofs.AllowedMaps.{IsMade, integer_says, config_name, AreAllowed, AreUnder, none_under, last_under, map_allowed, AreClocks, clocks_allowed, IsEnvironment, environment_allowed}
+use Rattle.conf_laws.proofs.AllowedMaps.{IsMade, integer_says, config_name, AreAllowed, AreUnder, none_under, one_under, map_allowed, AreClocks, clocks_allowed, IsEnvironment, environment_allowed}
 use Rattle.conf_laws.proofs.Structures.{AreExtras, structure_says, extras_says}
 use Rattle.conf_laws.proofs.Numbers.{number_told, natural_is_in}
 use Rattle.conf_laws.proofs.Properties.{IsWithin, AreWithin, is_within, object_within, optional_within, entry_within, all_within, flaws_in, names_of, Property, leads, needed_by, OwnPlace, is_object, is_own, MapPlace, is_map, type_object}
@@ -189,26 +189,27 @@ module _ {A : Type 0} {place inner : Place} (named : A → List ℕ) (good : A �
     (says : (k : Known) (name : List ℕ) (d : Data) (ms : Members) → key_of k place name d ≡ Ok tt → member_flaws k inner ms ≡ [] → Says (of k.levels name ms) (λ x. (named x ≡ name) × (AreWithin inner ms → good x))) where
   -- from here on, behind those that are done
   types_say : (levels : Members) (k : Known) → k.levels ≡ levels → (ms : Members) (done : List A) → member_flaws k place ms ≡ []
-      → Says (said_behind (of levels) done ms) (λ xs. (names : List (List ℕ)) → AreWithin place ms → AreUnder named good names done → AreUnder named good (names ++ names_of ms) xs)
-  types_say levels k is no_members done f = (done, refl, λ names own h. subst (λ l. AreUnder named good l done) (sym (append-nil names)) h)
+      → Says (said_behind (of levels) done ms) (λ xs. (ys : List A) × (done ++ ys ≡ xs) × (AreWithin place ms → AreUnder named good (names_of ms) ys))
+  types_say levels k is no_members done f = (done, refl, ([], append-nil done, λ own. none_under named good))
   types_say levels k is (member name d ms) done f =
       let first = first_entry k place name (At inner) d ms (is_map map) f in
       let value = held_at k inner d (is_object one) first.0.value in
       let new = says k name d value.ms first.0.named (subst (λ j. member_flaws j inner value.ms ≡ []) ((is_own one).known k value.ms) value.rows.flaws) in
-      let rest = types_say levels (behind place d k) (keeps d k ∙ is) ms (done ++ new.0 ∷ []) first.1 in (
-        rest.0,
-        ap (λ x. said_behind (of levels) done (member name x ms)) value.is ∙ ap (option_and_then (λ x. said_behind (of levels) (done ++ x ∷ []) ms)) (ap (λ l. of l name value.ms) (sym is) ∙ new.1) ∙ rest.1,
-        λ names own h.
-            let within = entry_within map name d ms own in
-            let inside = object_within inner inner value.ms ((is_own one).own value.ms) (subst (λ x. IsWithin (At inner) x) value.is within.0) in
-            subst (λ l. AreUnder named good l rest.0) (append_assoc names (name ∷ []) (names_of ms)) (rest.2 (names ++ name ∷ []) within.2 (last_under named good name names new.0 done new.2.0 (new.2.1 inside) h)),
-      )
+      let rest = types_say levels (behind place d k) (keeps d k ∙ is) ms (done ++ new.0 ∷ []) first.1 in
+      let x : A = new.0 in
+      let ys = rest.2.0 in
+      let good_here : AreWithin place (member name d ms) → AreUnder named good (name ∷ names_of ms) (x ∷ ys) = λ own.
+      let within = entry_within map name d ms own in
+      let inside = object_within inner inner value.ms ((is_own one).own value.ms) (subst (λ y. IsWithin (At inner) y) value.is within.0) in
+      one_under named good name (names_of ms) x ys new.2.0 (new.2.1 inside) (rest.2.2 within.2) in
+      let said = ap (λ y. said_behind (of levels) done (member name y ms)) value.is ∙ ap (option_and_then (λ y. said_behind (of levels) (done ++ y ∷ []) ms)) (ap (λ l. of l name value.ms) (sym is) ∙ new.1) ∙ rest.1 in
+      (rest.0, said, (x ∷ ys, sym (append_assoc done (x ∷ []) ys) ∙ rest.2.1, good_here))
 
   map_says : (k : Known) {c : Bool} {around : Place} {name : List ℕ} → Property c around name (At place) → (ms levels : Members) → k.levels ≡ levels → member_flaws k around ms ≡ [] → Says (said_behind (of levels) [] (properties name ms)) (λ xs. AreWithin around ms → AreAllowed named good most xs)
   map_says k {name = name} property ms levels is f =
-      let types = types_say levels k is (properties name ms) [] (flaws_in k property all ms f) in
+      let (xs, said, (ys, same, under)) = types_say levels k is (properties name ms) [] (flaws_in k property all ms f) in
       let few = bounded (members_len (properties name ms)) in
-      (types.0, types.1, λ h. let own = all_within property all ms h in map_allowed named good most (properties name ms) types.0 own.0.in_order (sym few ∙ own.1) (types.2 [] own.0 (none_under named good)))
+      (xs, said, λ h. let own = all_within property all ms h in subst (AreAllowed named good most) same (map_allowed named good most (properties name ms) ys own.0.in_order (sym few ∙ own.1) (under own.0)))
 
 -- ---- event record types
 

@@ -122,9 +122,6 @@ some_list d ds flaw is (IsNoList.no_list none) = some_none (as_array d) ds is no
 some_flag : (d : Data) (b : Bool) (flaw : Flaw) → as_bool d ≡ Some b → ¬ IsNoFlag d flaw
 some_flag d b flaw is (IsNoFlag.no_flag none) = some_none (as_bool d) b is none
 
-some_text : (d : Data) (s : List ℕ) (flaw : Flaw) → as_str d ≡ Some s → ¬ IsNoText d flaw
-some_text d s flaw is (IsNoText.no_text none) = some_none (as_str d) s is none
-
 object_judged : (d : Data) → IsJudged (any_object d) (IsNoObject d)
 unfolding any_object
 object_judged d = kind_judged (IsNoObject d) (as_object d) _ IsNoObject.no_object (λ ms is flaw. some_object d ms flaw is)
@@ -412,7 +409,7 @@ module _ (k : Known) (around : Around) (h : Agrees k around) where
   value_judged contents.Flag d = kind_judged (IsNoFlag d) (as_bool d) _ IsNoFlag.no_flag (λ b is flaw. some_flag d b flaw is)
   value_judged contents.OneFlag d = default_judged k around h d
   value_judged (contents.Text most) d = printable_judged d
-  value_judged contents.ClockName d = kind_judged (IsNoText d) (as_str d) _ IsNoText.no_text (λ s is flaw. some_text d s flaw is)
+  value_judged contents.ClockName d = kind_judged (IsNoText d) (as_str d) _ IsNoText.no_text (λ s is flaw wrong. elim wrong as (λ f w. ⊥) [ IsNoText.no_text none ↦ some_none (as_str d) s is none ])
   value_judged contents.Identifier d = text_judged (IsNoUuid d) (λ s. is_some (uuid_in s)) d IsNoUuid.no_text (λ s is fails. IsNoUuid.no_uuid s is (none_there (parsed s) fails)) (λ s is holds flaw. uuid_excluded d s flaw is holds)
   value_judged contents.IdentifierOrAuto d = choice_judged d
   value_judged (contents.Word words) d = word_judged (words_of words) (λ s. list_any (bytes_eq s) (words_of words)) d (λ s. (listed (words_of words) s, has_by_bytes (words_of words) s))
