@@ -178,9 +178,5 @@ takes_further taken place all i d is h = λ name. joined (entry_taken d taken na
 
 -- what is taken at an item is what the items before it in its list take
 pub item_agrees : (k : Known) (around : Around) (taken : Members) (place : Place) (all : Items) (i : ℕ) → Agrees k around → Takes taken place all i → Agrees (with_taken taken k) (item_of place all i ∷ around)
-item_agrees k around taken place all i h takes = record {
-  levels = h.levels;
-  second = h.second;
-  numbers = h.numbers;
-  taken = λ name. (λ t. elim ((takes name).0 t) [ inl before ↦ inr before | inr beside ↦ inl beside ], λ p. (takes name).1 (elim p [ inl beside ↦ inr beside | inr before ↦ inl before ]));
-}
+item_agrees k around taken place all i h takes =
+    record { levels = h.levels; second = h.second; numbers = h.numbers; taken = λ name. (λ t. elim ((takes name).0 t) [ inl before ↦ inr before | inr beside ↦ inl beside ], λ p. (takes name).1 (elim p [ inl beside ↦ inr beside | inr before ↦ inl before ])) }

@@ -182,12 +182,7 @@ mappings_good k labels h within =
     let flaws = (rows_sound k places.Mappings places.Mappings labels own (object_sound k places.Mappings labels h.inner)).flaws in
     let all = object_within places.Mappings places.Mappings labels own within in
     let few = leb-true (counted_ranges labels) 1024 (fitting_parts places.Mappings (object labels) within.fitting).2 in
-    record {
-      each = All-from_recursion (IsGoodMapping k) (labels_in labels) (labels_good k labels flaws all);
-      in_order = labels_in_order labels all.in_order;
-      some = some_range k labels h.itself flaws;
-      few = omega (arith, few, labels_few labels);
-    }
+    record { each = All-from_recursion (IsGoodMapping k) (labels_in labels) (labels_good k labels flaws all); in_order = labels_in_order labels all.in_order; some = some_range k labels h.itself flaws; few = omega (arith, few, labels_few labels) }
 
 some_object : (k : Known) (d : Data) → ContentSound k (At places.Mappings) d → (labels : Members) × (d ≡ object labels)
 unfolding itself_of form_of
@@ -261,11 +256,7 @@ pub map_allowed : {A : Type 0} (named : A → List ℕ) (good : A → Type 0) (m
 map_allowed named good most ms xs order few h =
     let short = leb-true (members_len ms) most few in
     let counted : length xs ≡ members_len ms = sym (length-map xs named) ∙ ap length h.names_are ∙ names_counted ms in
-    record {
-      each = All-from_recursion good xs h.items;
-      in_order = subst InByteOrder (sym h.names_are) (sorted_names ms order);
-      few = omega (arith, short, counted);
-    }
+    record { each = All-from_recursion good xs h.items; in_order = subst InByteOrder (sym h.names_are) (sorted_names ms order); few = omega (arith, short, counted) }
 
 abbrev entry_content : Content
 entry_content = WholeOrText (negsuc 9223372036854775807) (pos 9223372036854775807) 4096

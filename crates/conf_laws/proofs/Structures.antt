@@ -63,16 +63,13 @@ AreApart before names = AllByRecursion (λ name. list_any (bytes_eq name) before
 
 -- ---- names apart
 
-differ : (xs ys : List ℕ) → (xs ≡ ys → ⊥) → bytes_eq xs ys ≡ false
-differ xs ys other =
-    by_test (λ (b : Bool). b ≡ false) (bytes_eq xs ys) (λ is. absurd (other ((bytes_eq-Decides xs ys).0 is))) (λ is. refl)
-
 distinct_last : (xs : List (List ℕ)) (y : List ℕ) → IsDistinct bytes_eq xs → list_any (bytes_eq y) xs ≡ false → IsDistinct bytes_eq (xs ++ y ∷ [])
 unfolding IsDistinct
 distinct_last [] y h free = (tt, tt)
 distinct_last (x ∷ xs) y h free =
     let p = or_parts (bytes_eq y x) (list_any (bytes_eq y) xs) free in
-    (all_joined (λ z. bytes_eq x z ≡ false) xs (y ∷ []) h.0 (differ x y (λ same. false≢true (sym p.0 ∙ (bytes_eq-Decides y x).1 (sym same))), tt), distinct_last xs y h.1 p.1)
+    let apart : bytes_eq x y ≡ false = by_test (λ (b : Bool). b ≡ false) (bytes_eq x y) (λ is. absurd (false≢true (sym p.0 ∙ (bytes_eq-Decides y x).1 (sym ((bytes_eq-Decides x y).0 is))))) (λ is. refl) in
+    (all_joined (λ z. bytes_eq x z ≡ false) xs (y ∷ []) h.0 (apart, tt), distinct_last xs y h.1 p.1)
 
 -- names that are taken, apart from each other and from those that were taken before
 record AreShown (before shown : List (List ℕ)) (taken : Members) : Type 0 where
@@ -141,15 +138,13 @@ elements_say k ms h =
     let o = object_at k places.DynamicElementType p.value p.sound.value refl in
     let t = type_sound k places.DynamicElementType o.ms refl o.sound in
     let x = type_says k places.DynamicElementType o.ms refl t t.may_stand in
-    let found : get_member (codes "element-field-type") ms ≡ Some (object o.ms) = p.found ∙ ap Some o.is in (
-      x.0,
-      element_is ms ∙ ap (option_and_then field_type) found ∙ x.1,
-      λ h.
-          let good = property_within Property.dynamic_element ms (object o.ms) h found in
-          let nests = some_there (elements 8 (object o.ms)) (fitting_parts places.DynamicElementType (object o.ms) good.fitting).0 in
-          let allowed = x.2 good in
-          ((allowed.leaf, nest_allowed (object o.ms) x.0 allowed nests.0 nests.1), bits_allowed (object o.ms) x.0 allowed (was_so _ t.shape)),
-    )
+    let found : get_member (codes "element-field-type") ms ≡ Some (object o.ms) = p.found ∙ ap Some o.is in
+    let allowed : AreWithin places.DynamicArray ms → IsConfigMember (Dyn x.0 Auto) = λ h.
+    let good = property_within Property.dynamic_element ms (object o.ms) h found in
+    let nests = some_there (elements 8 (object o.ms)) (fitting_parts places.DynamicElementType (object o.ms) good.fitting).0 in
+    let one = x.2 good in
+    ((one.leaf, nest_allowed (object o.ms) x.0 one nests.0 nests.1), bits_allowed (object o.ms) x.0 one (was_so _ t.shape)) in
+    (x.0, element_is ms ∙ ap (option_and_then field_type) found ∙ x.1, allowed)
 
 member_class : (class : Place) → admits_class places.MemberType class ≡ true → (class ≡ places.DynamicArray) ⊎ ((is_dynamic_array class ≡ false) × (admits_class places.ElementType class ≡ true))
 unfolding admits_class
@@ -184,16 +179,11 @@ told_says k x h =
     let found : get_member (codes "field-type") o.ms ≡ Some (object y.ms) = p.found ∙ ap Some y.is in
     let there = optional_found (codes "field-type") o.ms (object y.ms) found refl in
     let dynamic : is_dynamic x ≡ option_map_or is_dynamic_array (class_of y.ms) false =
-    ap (λ z. option_map_or is_dynamic_array (class_of_member z) false) o.is ∙ ap (λ q. option_map_or is_dynamic_array (option_and_then class_of (option_and_then as_object q)) false) found in (
-      m.0,
-      ap member_of o.is ∙ ap (λ q. option_and_then member_type (option_and_then as_object q)) there ∙ m.1,
-      (
-        (λ name. ap (λ b. names_by b name) dynamic ∙ m.2.0 name),
-        λ good.
-            let own = object_within places.Member places.Member o.ms ((is_own OwnPlace.named_member).own o.ms) (subst (λ z. IsWithin (At places.Member) z) o.is good) in
-            m.2.1 (property_within Property.type_of_member o.ms (object y.ms) own found),
-      ),
-    )
+    ap (λ z. option_map_or is_dynamic_array (class_of_member z) false) o.is ∙ ap (λ q. option_map_or is_dynamic_array (option_and_then class_of (option_and_then as_object q)) false) found in
+    let allowed : IsWithin (At places.Member) x → IsConfigMember m.0 = λ good.
+    let own = object_within places.Member places.Member o.ms ((is_own OwnPlace.named_member).own o.ms) (subst (λ z. IsWithin (At places.Member) z) o.is good) in
+    m.2.1 (property_within Property.type_of_member o.ms (object y.ms) own found) in
+    (m.0, ap member_of o.is ∙ ap (λ q. option_and_then member_type (option_and_then as_object q)) there ∙ m.1, ((λ name. ap (λ b. names_by b name) dynamic ∙ m.2.0 name), allowed))
 
 -- ---- an entry
 
@@ -234,20 +224,14 @@ module _ (k : Known) (place : Place) (before : List (List ℕ)) (entries : item_
       let more = done ++ (name, m.0) ∷ [] in
       let rest = items_say ds (with_member name b taken) (suc i) more named (subst (λ x. item_flaws k place (with_names x taken) (suc i) ds ≡ []) s.2 first.1) in
       let step : members_behind done (item (object ms) ds) ≡ members_behind more ds = rw (m.1, free) refl in
-      let counted = rest.2.counted in (
-        rest.0,
-        ap (λ x. members_behind done (item x ds)) s.2 ∙ step ∙ rest.1,
-        record {
-          after = rest.2.after;
-          named = rest.2.named;
-          counted = omega (arith, counted, length-append done ((name, m.0) ∷ []));
-          types = λ all good.
-              let items = item_within place i d ds good in
-              let first = subst (λ x. IsWithin (At places.Entry) x) s.2 (subst (λ c. IsWithin c d) entries items.0) in
-              let value = (entry_within MapPlace.entry name s.1 no_members (object_within places.Entry places.Entry ms ((is_own OwnPlace.entry).own ms) first)).0 in
-              rest.2.types (All-push (λ (m : List ℕ × MemberType). IsConfigMember m.1) done (name, m.0) all (m.2.1 value)) items.1;
-        },
-      )
+      let counted = rest.2.counted in
+      let types : All (λ (n : List ℕ × MemberType). IsConfigMember n.1) done → AreItemsWithin place i (item d ds) → All (λ (n : List ℕ × MemberType). IsConfigMember n.1) rest.0 = λ all good.
+      let items = item_within place i d ds good in
+      let first = subst (λ x. IsWithin (At places.Entry) x) s.2 (subst (λ c. IsWithin c d) entries items.0) in
+      let value = (entry_within MapPlace.entry name s.1 no_members (object_within places.Entry places.Entry ms ((is_own OwnPlace.entry).own ms) first)).0 in
+      rest.2.types (All-push (λ (n : List ℕ × MemberType). IsConfigMember n.1) done (name, m.0) all (m.2.1 value)) items.1 in
+      let read : AreRead place before i done (item d ds) rest.0 = record { after = rest.2.after; named = rest.2.named; counted = omega (arith, counted, length-append done ((name, m.0) ∷ [])); types = types } in
+      (rest.0, ap (λ x. members_behind done (item x ds)) s.2 ∙ step ∙ rest.1, read)
 
 is_list : (d : Data) → form_of nothing places.Members d ≡ Ok tt → (ds : Items) × (d ≡ array ds)
 unfolding form_of
