@@ -45,18 +45,9 @@ module _ (ms : Members) (class : Place) (is : class_of ms ≡ Some class) (other
 -- ---- static arrays
 
 -- the product of two counts, where it is not too large
-record Times (a b : Option ℕ) (m : ℕ) : Type 0 where
-  first : ℕ
-  second : ℕ
-  one : a ≡ Some first
-  two : b ≡ Some second
-  is : m ≡ first * second
-  most : m ≤ 1048576
-
-times_told : (a b : Option ℕ) (m : ℕ) → times a b ≡ Some m → Times a b m
+times_told : (a b : Option ℕ) (m : ℕ) → times a b ≡ Some m → (first second : ℕ) × (a ≡ Some first) × (b ≡ Some second) × (m ≡ first * second) × (m ≤ 1048576)
 times_told (Some n) (Some k) m e =
-    let p = cond_some (nat_le (n * k) 1048576) (n * k) m e in
-    record { first = n; second = k; one = refl; two = refl; is = sym p.1; most = subst (λ x. x ≤ 1048576) p.1 (leb-true (n * k) 1048576 p.0) }
+    let p = cond_some (nat_le (n * k) 1048576) (n * k) m e in (n, k, refl, refl, sym p.1, subst (λ x. x ≤ 1048576) p.1 (leb-true (n * k) 1048576 p.0))
 times_told _ _ m e = absurd cc
 
 own_is : (o : Option ℕ) (own : ℕ) → at_least_one o ≡ Some own → max 1 (unwrap_or o 0) ≡ own
@@ -79,11 +70,11 @@ module _ (ms : Members) (static : is_static_array (class_of ms) ≡ true) (n : �
       nests zero m e = absurd (let none = rw static at e in cc)
       nests (suc levels) m e =
           let count = at_least_one (natural_in (codes "length") ms) in
-          let told = times_told count (elements levels value) m (sym (in_array levels count ms ∙ rw there refl) ∙ rw static at e) in
-          let inside = one.nests levels told.second told.two in
+          let (first, second, counted, within, product, most) = times_told count (elements levels value) m (sym (in_array levels count ms ∙ rw there refl) ∙ rw static at e) in
+          let inside = one.nests levels second within in
           let deep = inside.deep in
-          let own : max 1 (length_of ms) ≡ told.first = ap (λ o. max 1 (unwrap_or o 0)) (same_natural (codes "length") ms) ∙ own_is (natural_in (codes "length") ms) told.first told.one in
-          record { deep = omega (arith, deep); size = ap (λ x. x * elements_of (chain_of inner).lengths) own ∙ ap (λ x. told.first * x) inside.size ∙ sym told.is; few = told.most }
+          let own : max 1 (length_of ms) ≡ first = ap (λ o. max 1 (unwrap_or o 0)) (same_natural (codes "length") ms) ∙ own_is (natural_in (codes "length") ms) first counted in
+          record { deep = omega (arith, deep); size = ap (λ x. x * elements_of (chain_of inner).lengths) own ∙ ap (λ x. first * x) inside.size ∙ sym product; few = most }
 
 -- ---- a field type by its class
 

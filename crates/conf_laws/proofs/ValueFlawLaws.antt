@@ -251,18 +251,13 @@ level_judged levels high d = same_judged (IsNoWhole (pos 0) high d) (IsNoLevel l
 
 -- ---- ranges
 
--- a range that was read, and that its ends are in what a configuration can hold
-record RangeRead (d : Data) (low high : ℤ) : Type 0 where
-  is : IsRange d low high
-  least : int_le lowest_end low ≡ true
-  most : int_le high highest_end ≡ true
-
-range_known : (d : Data) (low high : ℤ) → ReadSo d low high → RangeRead d low high
-range_known d low high (ReadSo.one_number z none e) = let read = whole_read lowest_end highest_end d z e in record { is = IsRange.one_number z read.whole; least = read.least; most = read.most }
+-- a range that was read is one, and its ends are in what a configuration can hold
+range_known : (d : Data) (low high : ℤ) → ReadSo d low high → IsRange d low high × (int_le lowest_end low ≡ true) × (int_le high highest_end ≡ true)
+range_known d low high (ReadSo.one_number z none e) = let read = whole_read lowest_end highest_end d z e in (IsRange.one_number z read.whole, read.least, read.most)
 range_known d low high (ReadSo.two_numbers a b z w pair e f) =
     let first = whole_read lowest_end highest_end a z e in
     let second = whole_read lowest_end highest_end b w f in
-    record { is = IsRange.two_numbers a b z w pair first.whole second.whole; least = first.least; most = second.most }
+    (IsRange.two_numbers a b z w pair first.whole second.whole, first.least, second.most)
 
 pub number_there : (name : List ℕ) (ms : Members) (n : ℕ) → natural_in name ms ≡ Some n → HasNumber name ms n
 unfolding natural_in
@@ -354,14 +349,14 @@ module _ (around : Around) where
         let so = read_so d range went in
         let x = range.low in
         let y = range.high in
-        let read = range_known d x y so in
-        let low = below numbers agrees x read.least in
-        let high = above numbers agrees y read.most in
+        let (is_range, least, most) = range_known d x y so in
+        let low = below numbers agrees x least in
+        let high = above numbers agrees y most in
         test_judged (IsNoRange around d) (int_le x y && int_le numbers.low x && int_le y numbers.high) (here OutOfRange) (λ fails. elim (and_cases (int_le x y && int_le numbers.low x) (int_le y numbers.high) fails) [
-          | inr large ↦ let o = high.0 large in IsNoRange.above_the_integer x y o.0 o.1 read.is o.2 o.3
+          | inr large ↦ let o = high.0 large in IsNoRange.above_the_integer x y o.0 o.1 is_range o.2 o.3
           | inl either ↦ elim (and_cases (int_le x y) (int_le numbers.low x) either) [
-            | inl empty ↦ IsNoRange.low_above_high x y read.is (below_in y x (le-false x y empty))
-            | inr small ↦ let o = low.0 small in IsNoRange.below_the_integer x y o.0 o.1 read.is o.2 o.3
+            | inl empty ↦ IsNoRange.low_above_high x y is_range (below_in y x (le-false x y empty))
+            | inr small ↦ let o = low.0 small in IsNoRange.below_the_integer x y o.0 o.1 is_range o.2 o.3
           ]
         ]) (λ holds flaw.
         let p = and_parts (int_le x y && int_le numbers.low x) (int_le y numbers.high) holds in
