@@ -319,10 +319,10 @@ clocks_under k no_members f h = none_under clock_name IsClockType
 clocks_under k (member name d ms) f h =
     let sound = first_entry k places.ClockTypes name (At places.ClockType) d ms (is_map MapPlace.clock_types) f in
     let within = entry_within MapPlace.clock_types name d ms h in
-    let inner = held_at k places.ClockType d (is_object OwnPlace.clock_type) sound.0.value in
-    let one = clock_allowed k name inner.ms (plain_name name sound.0.named) inner.rows.flaws (object_within places.ClockType places.ClockType inner.ms ((is_own OwnPlace.clock_type).own inner.ms) (subst (λ x. IsWithin (At places.ClockType) x) inner.is within.0)) in
-    subst (λ x. AreUnder clock_name IsClockType (name ∷ names_of ms) (clocks_in (member name x ms))) (sym inner.is)
-    (one_under clock_name IsClockType name (names_of ms) (clock_type name inner.ms) (clocks_in ms) refl one (clocks_under k ms sound.1 within.2))
+    let (inner, same, rows) = held_at k places.ClockType d (is_object OwnPlace.clock_type) sound.0.value in
+    let one = clock_allowed k name inner (plain_name name sound.0.named) rows.flaws (object_within places.ClockType places.ClockType inner ((is_own OwnPlace.clock_type).own inner) (subst (λ x. IsWithin (At places.ClockType) x) same within.0)) in
+    subst (λ x. AreUnder clock_name IsClockType (name ∷ names_of ms) (clocks_in (member name x ms))) (sym same)
+    (one_under clock_name IsClockType name (names_of ms) (clock_type name inner) (clocks_in ms) refl one (clocks_under k ms sound.1 within.2))
 
 abbrev pub AreClocks : List ClockType → Type 0
 AreClocks cs = AreAllowed clock_name IsClockType 64 cs

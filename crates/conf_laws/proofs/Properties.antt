@@ -224,5 +224,5 @@ pub flaws_in : (k : Known) {b : Bool} {around inner : Place} {name : List ℕ} �
 unfolding properties object_at
 flaws_in k {around = around} {inner = inner} {name = name} property own ms f =
     by_found (λ (o : Option Data). member_flaws k inner (unwrap_or (option_and_then as_object o) no_members) ≡ []) (optional name ms) (λ is. refl) (λ d is.
-    let s = held_at k inner d (is_object own) (optional_sound k around name (At inner) ms d (leads property) f is).value in
-    subst (λ x. member_flaws k inner (unwrap_or (as_object x) no_members) ≡ []) (sym s.is) (subst (λ j. member_flaws j inner s.ms ≡ []) ((is_own own).known k s.ms) s.rows.flaws))
+    let (os, same, rows) = held_at k inner d (is_object own) (optional_sound k around name (At inner) ms d (leads property) f is).value in
+    subst (λ x. member_flaws k inner (unwrap_or (as_object x) no_members) ≡ []) (sym same) (subst (λ j. member_flaws j inner os ≡ []) ((is_own own).known k os) rows.flaws))

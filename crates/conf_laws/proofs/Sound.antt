@@ -116,15 +116,10 @@ is_object (object ms) e = (ms, refl)
 is_object _ e = absurd cc
 
 -- a value at a place of objects is an object that is sound
-pub record SoundAt (k : Known) (place : Place) (d : Data) : Type 0 where
-  pub ms : Members
-  pub is : d ≡ object ms
-  pub sound : ObjectSound k place ms
-
-pub object_at : (k : Known) (place : Place) (d : Data) → ContentSound k (At place) d → itself_of k (At place) d ≡ any_object d → SoundAt k place d
+pub object_at : (k : Known) (place : Place) (d : Data) → ContentSound k (At place) d → itself_of k (At place) d ≡ any_object d → (ms : Members) × (d ≡ object ms) × ObjectSound k place ms
 object_at k place d h form =
-    let o = is_object d (sym form ∙ h.itself) in
-    record { ms = o.0; is = o.1; sound = object_sound k place o.0 (subst (λ x. inner_flaws k (At place) x ≡ []) o.1 h.inner) }
+    let (ms, is) = is_object d (sym form ∙ h.itself) in
+    (ms, is, object_sound k place ms (subst (λ x. inner_flaws k (At place) x ≡ []) is h.inner))
 
 -- the properties of an object whose rows are those of this place
 pub record RowsSound (k : Known) (place : Place) (ms : Members) : Type 0 where
@@ -233,13 +228,8 @@ pub record IsObject (place : Place) : Type 0 where
   pub own : (ms : Members) → place_of_properties place ms ≡ place
 
 -- an object that is there, with its rows
-pub record Held (k : Known) (place : Place) (d : Data) : Type 0 where
-  pub ms : Members
-  pub is : d ≡ object ms
-  pub rows : RowsSound (inside place ms k) place ms
-
-pub held_at : (k : Known) (place : Place) (d : Data) → IsObject place → ContentSound k (At place) d → Held k place d
-held_at k place d o h = let s = object_at k place d h (o.form k d) in record { ms = s.ms; is = s.is; rows = rows_sound k place place s.ms (o.own s.ms) s.sound }
+pub held_at : (k : Known) (place : Place) (d : Data) → IsObject place → ContentSound k (At place) d → (ms : Members) × (d ≡ object ms) × RowsSound (inside place ms k) place ms
+held_at k place d o h = let (ms, is, sound) = object_at k place d h (o.form k d) in (ms, is, rows_sound k place place ms (o.own ms) sound)
 
 module _ (k : Known) (around place : Place) (name : List ℕ) (ms : Members) (leads : Leads around name (At place)) (o : IsObject place) (h : RowsSound k around ms) where
   -- a needed object is there
@@ -247,6 +237,6 @@ module _ (k : Known) (around place : Place) (name : List ℕ) (ms : Members) (le
   unfolding object_in
   needed_object is =
       let p = needed_sound k around name (At place) ms leads is h in
-      let s = held_at k place p.value o p.sound.value in
-      let found = optional_found name ms (object s.ms) (p.found ∙ ap Some s.is) refl in
-      (s.ms, ap (option_and_then as_object) found, s.rows)
+      let (os, same, rows) = held_at k place p.value o p.sound.value in
+      let found = optional_found name ms (object os) (p.found ∙ ap Some same) refl in
+      (os, ap (option_and_then as_object) found, rows)

@@ -135,15 +135,15 @@ elements_say : (k : Known) (ms : Members) → RowsSound k places.DynamicArray ms
 unfolding itself_of form_of is_position admits_class fits arrays_fit is_outermost shape_of
 elements_say k ms h =
     let p = needed_sound k places.DynamicArray (codes "element-field-type") (At places.DynamicElementType) ms (leads Property.dynamic_element) (needed_by Property.dynamic_element) h in
-    let o = object_at k places.DynamicElementType p.value p.sound.value refl in
-    let t = type_sound k places.DynamicElementType o.ms refl o.sound in
-    let x = type_says k places.DynamicElementType o.ms refl t t.may_stand in
-    let found : get_member (codes "element-field-type") ms ≡ Some (object o.ms) = p.found ∙ ap Some o.is in
+    let (os, same, sound) = object_at k places.DynamicElementType p.value p.sound.value refl in
+    let t = type_sound k places.DynamicElementType os refl sound in
+    let x = type_says k places.DynamicElementType os refl t t.may_stand in
+    let found : get_member (codes "element-field-type") ms ≡ Some (object os) = p.found ∙ ap Some same in
     let allowed : AreWithin places.DynamicArray ms → IsConfigMember (Dyn x.0 Auto) = λ h.
-    let good = property_within Property.dynamic_element ms (object o.ms) h found in
-    let nests = some_there (elements 8 (object o.ms)) (fitting_parts places.DynamicElementType (object o.ms) good.fitting).0 in
+    let good = property_within Property.dynamic_element ms (object os) h found in
+    let nests = some_there (elements 8 (object os)) (fitting_parts places.DynamicElementType (object os) good.fitting).0 in
     let one = x.2 good in
-    ((one.leaf, nest_allowed (object o.ms) x.0 one nests.0 nests.1), bits_allowed (object o.ms) x.0 one (was_so _ t.shape)) in
+    ((one.leaf, nest_allowed (object os) x.0 one nests.0 nests.1), bits_allowed (object os) x.0 one (was_so _ t.shape)) in
     (x.0, element_is ms ∙ ap (option_and_then field_type) found ∙ x.1, allowed)
 
 member_class : (class : Place) → admits_class places.MemberType class ≡ true → (class ≡ places.DynamicArray) ⊎ ((is_dynamic_array class ≡ false) × (admits_class places.ElementType class ≡ true))
@@ -172,18 +172,18 @@ member_says k ms h =
 told_says : (k : Known) (x : Data) → ContentSound k (At places.Member) x → Says (member_of x) (λ m. IsTyped (is_dynamic x) m × (IsWithin (At places.Member) x → IsConfigMember m))
 unfolding itself_of form_of place_of_properties is_position own_place inside object_named is_dynamic
 told_says k x h =
-    let o = object_at k places.Member x h refl in
-    let p = needed_sound k places.Member (codes "field-type") (At places.MemberType) o.ms (leads Property.type_of_member) (needed_by Property.type_of_member) (rows_sound k places.Member places.Member o.ms refl o.sound) in
-    let y = object_at k places.MemberType p.value p.sound.value refl in
-    let m = member_says k y.ms y.sound in
-    let found : get_member (codes "field-type") o.ms ≡ Some (object y.ms) = p.found ∙ ap Some y.is in
-    let there = optional_found (codes "field-type") o.ms (object y.ms) found refl in
-    let dynamic : is_dynamic x ≡ option_map_or is_dynamic_array (class_of y.ms) false =
-    ap (λ z. option_map_or is_dynamic_array (class_of_member z) false) o.is ∙ ap (λ q. option_map_or is_dynamic_array (option_and_then class_of (option_and_then as_object q)) false) found in
+    let (os, same, sound) = object_at k places.Member x h refl in
+    let p = needed_sound k places.Member (codes "field-type") (At places.MemberType) os (leads Property.type_of_member) (needed_by Property.type_of_member) (rows_sound k places.Member places.Member os refl sound) in
+    let (ys, type_is, of_type) = object_at k places.MemberType p.value p.sound.value refl in
+    let m = member_says k ys of_type in
+    let found : get_member (codes "field-type") os ≡ Some (object ys) = p.found ∙ ap Some type_is in
+    let there = optional_found (codes "field-type") os (object ys) found refl in
+    let dynamic : is_dynamic x ≡ option_map_or is_dynamic_array (class_of ys) false =
+    ap (λ z. option_map_or is_dynamic_array (class_of_member z) false) same ∙ ap (λ q. option_map_or is_dynamic_array (option_and_then class_of (option_and_then as_object q)) false) found in
     let allowed : IsWithin (At places.Member) x → IsConfigMember m.0 = λ good.
-    let own = object_within places.Member places.Member o.ms ((is_own OwnPlace.named_member).own o.ms) (subst (λ z. IsWithin (At places.Member) z) o.is good) in
-    m.2.1 (property_within Property.type_of_member o.ms (object y.ms) own found) in
-    (m.0, ap member_of o.is ∙ ap (λ q. option_and_then member_type (option_and_then as_object q)) there ∙ m.1, ((λ name. ap (λ b. names_by b name) dynamic ∙ m.2.0 name), allowed))
+    let own = object_within places.Member places.Member os ((is_own OwnPlace.named_member).own os) (subst (λ z. IsWithin (At places.Member) z) same good) in
+    m.2.1 (property_within Property.type_of_member os (object ys) own found) in
+    (m.0, ap member_of same ∙ ap (λ q. option_and_then member_type (option_and_then as_object q)) there ∙ m.1, ((λ name. ap (λ b. names_by b name) dynamic ∙ m.2.0 name), allowed))
 
 -- ---- an entry
 
@@ -297,11 +297,11 @@ structure_class _ a = absurd (false≢true a)
 type_structure : (k : Known) (d : Data) → ContentSound k (At places.StructureType) d → Says (option_map_or structure_of (as_object d) (made [] 1)) (λ s. IsWithin (At places.StructureType) d → IsConfigStruct s)
 unfolding itself_of form_of is_position inside
 type_structure k d h =
-    let o = object_at k places.StructureType d h refl in
-    let t = type_sound k places.StructureType o.ms refl o.sound in
+    let (os, is, sound) = object_at k places.StructureType d h refl in
+    let t = type_sound k places.StructureType os refl sound in
     let same = structure_class t.class t.may_stand in
-    let s = object_says k o.ms (subst (λ p. RowsSound (inside p o.ms k) p o.ms) same t.rows) in
-    (s.0, ap (λ x. option_map_or structure_of (as_object x) (made [] 1)) o.is ∙ s.1, λ good. s.2 (object_within places.StructureType places.Structure o.ms (class_place places.StructureType o.ms places.Structure refl (t.is ∙ ap Some same)) (subst (λ x. IsWithin (At places.StructureType) x) o.is good)))
+    let s = object_says k os (subst (λ p. RowsSound (inside p os k) p os) same t.rows) in
+    (s.0, ap (λ x. option_map_or structure_of (as_object x) (made [] 1)) is ∙ s.1, λ good. s.2 (object_within places.StructureType places.Structure os (class_place places.StructureType os places.Structure refl (t.is ∙ ap Some same)) (subst (λ x. IsWithin (At places.StructureType) x) is good)))
 
 pub structure_says : (k : Known) {b : Bool} {place : Place} {name : List ℕ} → Property b place name (At places.StructureType) → (ms : Members) → member_flaws k place ms ≡ [] → Says (structure name ms) (λ s. AreWithin place ms → IsConfigStruct s)
 unfolding structure object_named

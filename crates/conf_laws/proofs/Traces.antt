@@ -193,16 +193,16 @@ module _ {A : Type 0} {place inner : Place} (named : A → List ℕ) (good : A �
   types_say levels k is no_members done f = (done, refl, ([], append-nil done, λ own. none_under named good))
   types_say levels k is (member name d ms) done f =
       let first = first_entry k place name (At inner) d ms (is_map map) f in
-      let value = held_at k inner d (is_object one) first.0.value in
-      let new = says k name d value.ms first.0.named (subst (λ j. member_flaws j inner value.ms ≡ []) ((is_own one).known k value.ms) value.rows.flaws) in
+      let (ns, same, rows) = held_at k inner d (is_object one) first.0.value in
+      let new = says k name d ns first.0.named (subst (λ j. member_flaws j inner ns ≡ []) ((is_own one).known k ns) rows.flaws) in
       let rest = types_say levels (behind place d k) (keeps d k ∙ is) ms (done ++ new.0 ∷ []) first.1 in
       let x : A = new.0 in
       let ys = rest.2.0 in
       let good_here : AreWithin place (member name d ms) → AreUnder named good (name ∷ names_of ms) (x ∷ ys) = λ own.
       let within = entry_within map name d ms own in
-      let inside = object_within inner inner value.ms ((is_own one).own value.ms) (subst (λ y. IsWithin (At inner) y) value.is within.0) in
+      let inside = object_within inner inner ns ((is_own one).own ns) (subst (λ y. IsWithin (At inner) y) same within.0) in
       one_under named good name (names_of ms) x ys new.2.0 (new.2.1 inside) (rest.2.2 within.2) in
-      let said = ap (λ y. said_behind (of levels) done (member name y ms)) value.is ∙ ap (option_and_then (λ y. said_behind (of levels) (done ++ y ∷ []) ms)) (ap (λ l. of l name value.ms) (sym is) ∙ new.1) ∙ rest.1 in
+      let said = ap (λ y. said_behind (of levels) done (member name y ms)) same ∙ ap (option_and_then (λ y. said_behind (of levels) (done ++ y ∷ []) ms)) (ap (λ l. of l name ns) (sym is) ∙ new.1) ∙ rest.1 in
       (rest.0, said, (x ∷ ys, sym (append_assoc done (x ∷ []) ys) ∙ rest.2.1, good_here))
 
   map_says : (k : Known) {c : Bool} {around : Place} {name : List ℕ} → Property c around name (At place) → (ms levels : Members) → k.levels ≡ levels → member_flaws k around ms ≡ [] → Says (said_behind (of levels) [] (properties name ms)) (λ xs. AreWithin around ms → AreAllowed named good most xs)
@@ -363,9 +363,9 @@ root_says k given ms h =
 tree_says : (given : Option (List ℕ)) (d : Data) → configuration_flaws d ≡ [] → Says (draft_of given d) (λ draft. IsWithin (At places.Root) d → IsGoodConfig draft.config)
 unfolding inside
 tree_says given d f =
-    let h = held_at nothing places.Root d (is_object OwnPlace.root) (content_sound nothing (At places.Root) d f) in
-    let root = root_says nothing given h.ms h.rows in
-    (root.0, ap (draft_of given) h.is ∙ root.1, λ good. root.2 (object_within places.Root places.Root h.ms ((is_own OwnPlace.root).own h.ms) (subst (λ x. IsWithin (At places.Root) x) h.is good)))
+    let (ms, same, rows) = held_at nothing places.Root d (is_object OwnPlace.root) (content_sound nothing (At places.Root) d f) in
+    let root = root_says nothing given ms rows in
+    (root.0, ap (draft_of given) same ∙ root.1, λ good. root.2 (object_within places.Root places.Root ms ((is_own OwnPlace.root).own ms) (subst (λ x. IsWithin (At places.Root) x) same good)))
 
 -- what has no flaw says something
 pub tree_said : (given : Option (List ℕ)) (d : Data) → configuration_flaws d ≡ [] → IsSome (draft_of given d)
