@@ -26,12 +26,8 @@ whole_read low high d z e =
     record { whole = (m.0, wanted_found (as_number d) m.0 m.1, there.0); least = there.1; most = there.2 }
 
 -- the value is a whole number from low to high, a natural number
-record NaturalIn (low high : ℕ) (d : Data) : Type 0 where
-  n : ℕ
-  is : as_natural d ≡ Some n
-  above : nat_le low n ≡ true
-  below : nat_le n high ≡ true
-  there : is_null d ≡ false
+abbrev NaturalIn : ℕ → ℕ → Data → Type 0
+NaturalIn low high d = (n : ℕ) × (as_natural d ≡ Some n) × (nat_le low n ≡ true) × (nat_le n high ≡ true) × (is_null d ≡ false)
 
 number_there : (d : Data) (m : Num) → as_number d ≡ Some m → is_null d ≡ false
 number_there (number n) m e = refl
@@ -41,7 +37,7 @@ natural_of_whole : (low high : ℕ) (d : Data) (z : ℤ) → WholeRead (pos low)
 unfolding as_natural
 natural_of_whole low high d (pos n) r most =
     let small : nat_le n 18446744073709551615 ≡ true = le-leb n 18446744073709551615 (let b = leb-true n high r.most in omega arith) in
-    record { n = n; is = ap natural_or_none (ap integer_or_none r.whole.1 ∙ r.whole.2) ∙ rw small refl; above = r.least; below = r.most; there = number_there d r.whole.0 r.whole.1 }
+    (n, ap natural_or_none (ap integer_or_none r.whole.1 ∙ r.whole.2) ∙ rw small refl, r.least, r.most, number_there d r.whole.0 r.whole.1)
 natural_of_whole low high d (negsuc n) r most = absurd (false≢true r.least)
 
 natural_read : (low high : ℕ) (d : Data) → whole_from (pos low) (pos high) d ≡ Ok tt → high ≤ 18446744073709551615 → NaturalIn low high d
@@ -51,17 +47,17 @@ natural_read low high d e most =
 
 pub natural_is_in : (low high : ℕ) (d : Data) (n : ℕ) → high ≤ 18446744073709551615 → whole_from (pos low) (pos high) d ≡ Ok tt → as_natural d ≡ Some n → (low ≤ n) × (n ≤ high)
 natural_is_in low high d n most e is =
-    let r = natural_read low high d e most in
-    let same = same_Some r.n n (sym r.is ∙ is) in
-    (subst (λ x. low ≤ x) same (leb-true low r.n r.above), subst (λ x. x ≤ high) same (leb-true r.n high r.below))
+    let (m, read, above, below, there) = natural_read low high d e most in
+    let same = same_Some m n (sym read ∙ is) in
+    (subst (λ x. low ≤ x) same (leb-true low m above), subst (λ x. x ≤ high) same (leb-true m high below))
 
 pub needed_natural : (k : Known) (place : Place) (name : List ℕ) (low high : ℕ) (ms : Members) → Leads place name (Whole (pos low) (pos high)) → presence_under place name ≡ Some Needed → RowsSound k place ms
     → high ≤ 18446744073709551615 → (n : ℕ) × (natural name ms ≡ Some n) × (nat_le low n ≡ true) × (nat_le n high ≡ true)
 unfolding itself_of leaf_of natural
 needed_natural k place name low high ms leads is h most =
     let p = needed_sound k place name (Whole (pos low) (pos high)) ms leads is h in
-    let r = natural_read low high p.value p.sound.value.itself most in
-    (r.n, ap (option_and_then as_natural) (optional_found name ms p.value p.found r.there) ∙ r.is, r.above, r.below)
+    let (n, read, above, below, there) = natural_read low high p.value p.sound.value.itself most in
+    (n, ap (option_and_then as_natural) (optional_found name ms p.value p.found there) ∙ read, above, below)
 
 -- ---- a number that is told
 
