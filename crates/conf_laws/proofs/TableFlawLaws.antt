@@ -16,13 +16,11 @@ use Rattle.conf_laws.proofs.Words.presences
 module _ (place : Place) (name : List ℕ) where
   -- what an object inherits from is none of its properties
   inherits : IsTrue (bytes_eq name (codes "$inherit") && may_inherit place) ↔ ((name ≡ codes "$inherit") × IsSome (presence_under place name))
-  inherits = (
-    λ e.
-        let p = and_parts (bytes_eq name (codes "$inherit")) (may_inherit place) e in
-        let same : name ≡ codes "$inherit" = (bytes_eq-Decides name (codes "$inherit")).0 p.0 in
-        (same, ap (λ n. is_some (presence_under place n)) same ∙ p.1),
-    λ (same, some). and_from (bytes_eq name (codes "$inherit")) (may_inherit place) ((bytes_eq-Decides name (codes "$inherit")).1 same) (ap (λ n. is_some (presence_under place n)) (sym same) ∙ some),
-  )
+  inherits =
+      let named = bytes_eq-Decides name (codes "$inherit") in
+      let told : IsTrue (bytes_eq name (codes "$inherit") && may_inherit place) → (name ≡ codes "$inherit") × IsSome (presence_under place name) = λ e.
+      let p = and_parts (bytes_eq name (codes "$inherit")) (may_inherit place) e in (named.0 p.0, ap (λ n. is_some (presence_under place n)) (named.0 p.0) ∙ p.1) in
+      (told, λ (same, some). and_from (bytes_eq name (codes "$inherit")) (may_inherit place) (named.1 same) (ap (λ n. is_some (presence_under place n)) (sym same) ∙ some))
 
   property : (content : Content) → (resolved_content place name ≡ Some content) ↔ IsPropertyOf place name content
   unfolding resolved_content
@@ -387,11 +385,11 @@ module _ (k : Known) (around : Around) (place : Place) (all before : Members) (n
           | inr (inr (entries, map, named)) ↦ false≢true (sym (ap (λ o. left_out o d) (no_rows place name entries map)) ∙ out)
         ],
       ))
-      (λ there. same_tell (λ flaw. IsNoValueOf (member_of place all before ∷ around) content d flaw ⊎ (IsNoNameAt around place name d flaw ⊎ IsFlawInside (member_of place all before ∷ around) d content flaw)) IsFlawThere _ (λ flaw. (
+      (λ there. let stays : ¬ IsLeftOut place name d = λ out. false≢true (sym there ∙ (left place name d).1 out) in same_tell (λ flaw. IsNoValueOf (member_of place all before ∷ around) content d flaw ⊎ (IsNoNameAt around place name d flaw ⊎ IsFlawInside (member_of place all before ∷ around) d content flaw)) IsFlawThere _ (λ flaw. (
         λ either. elim either [
-          | inl value ↦ inr (inl (content, is, stays there, IsFlawOf.wrong_value value))
+          | inl value ↦ inr (inl (content, is, stays, IsFlawOf.wrong_value value))
           | inr (inl named) ↦ inr (inr named)
-          | inr (inr inner) ↦ inr (inl (content, is, stays there, from_inside (member_of place all before ∷ around) d content flaw inner))
+          | inr (inr inner) ↦ inr (inl (content, is, stays, from_inside (member_of place all before ∷ around) d content flaw inner))
         ],
         λ wrong. elim wrong [
           | inl (same, none) ↦ absurd (none content is)
@@ -401,9 +399,6 @@ module _ (k : Known) (around : Around) (place : Place) (all before : Members) (n
       ))
       (both_tell (IsNoValueOf (member_of place all before ∷ around) content d) (λ flaw. IsNoNameAt around place name d flaw ⊎ IsFlawInside (member_of place all before ∷ around) d content flaw) (told_by (itself_of k content d)) _ (judged_tell _ (itself_of k content d) (value_judged k (member_of place all before ∷ around) h content d))
       (both_tell (IsNoNameAt around place name d) (IsFlawInside (member_of place all before ∷ around) d content) (told_by (key_of k place name d)) (inner_flaws k content d) (judged_tell _ (key_of k place name d) (name_judged k around h.taken place name d)) held)))
-    where
-      stays : is_left_out place name d ≡ false → ¬ IsLeftOut place name d
-      stays there out = false≢true (sym there ∙ (left place name d).1 out)
 
   property_tells : ((content : Content) → Tell (IsFlawInside (member_of place all before ∷ around) d content) (inner_flaws k content d)) → Tell IsFlawThere (property_flaws k place name (resolved_content place name) d (inner_flaws k (unwrap_or (resolved_content place name) contents.Anything) d))
   property_tells held =
