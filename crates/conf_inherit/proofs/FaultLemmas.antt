@@ -42,6 +42,7 @@ pub record OwnSound (al : Members) (s : Place) (taken : Bool) (v : Data) : Type 
   pub free : taken ≡ false
 
 pub own_sound : (al : Members) (s : Place) (taken : Bool) (v : Data) → own_flaws al s taken v ≡ [] → OwnSound al s taken v
+unfolding own_flaws
 own_sound al s taken v h = let none = none_refused (is_wrong s v) (is_unknown al s v) taken h in record { right = none.0; known = none.1; free = none.2 }
 
 -- a name that is asked passes a test that every name in a value passes
@@ -232,6 +233,7 @@ holds_told al rs bases = record {
 module _ (al : Members) (rs : Option Members) (P : Place → Data → Flaw → Type 0) (told : IsTold al rs P) where
   -- it is told of a flaw that a value has by itself, or its name is taken
   own_told : (s : Place) (taken : Bool) (v : Data) → Each (λ f. P s v f ⊎ ((f ≡ here NameClash) × (taken ≡ true))) (own_flaws al s taken v)
+  unfolding own_flaws
   own_told s taken v = go (is_wrong s v) refl (is_unknown al s v) refl taken
     where
       go : (a : Bool) → is_wrong s v ≡ a → (b : Bool) → is_unknown al s v ≡ b → (c : Bool) → Each (λ f. P s v f ⊎ ((f ≡ here NameClash) × (c ≡ true))) (own_flaws al s c v)

@@ -22,6 +22,7 @@ module _ (al now : Members) (names : (n : List ℕ) → has now n ≡ has al n) 
   alike_unknown s _ = refl
 
   pub alike_own : (s : Place) (taken : Bool) (v : Data) → own_flaws now s taken v ≡ own_flaws al s taken v
+  unfolding own_flaws
   alike_own s taken v = ap (λ t. if is_wrong s v then here WrongKind ∷ [] else if t then here NoSuchAlias ∷ [] else if taken then here NameClash ∷ [] else []) (alike_unknown s v)
 
   module _ (rs ks : Option Members) (p : List ℕ → Bool) (bases : (s : Place) (k : List ℕ) (d : Data) → all_named p (place_under s k) d ≡ true → base_flaws ks s k d ≡ base_flaws rs s k d) where
@@ -138,6 +139,7 @@ module _ (done more : Members) (kept : (n : List ℕ) → has done n ≡ true �
   kept_limit s v h = rw (more_named s v h, h) (ap (λ r. passed (fitting r)) (kept_lay v s None h))
 
   kept_base_flaws : (s : Place) (k : List ℕ) (d : Data) → IsNamed (place_under s k) d → base_flaws (Some more) s k d ≡ base_flaws (Some done) s k d
+  unfolding base_flaws
   kept_base_flaws s k d h = elim (cases_Bool (is_base_name s k)) [
     | inl is ↦ rw is (kept_limit places.FieldType d (subst (λ t. all_named (has done) t d ≡ true) (base_place s k is) h))
     | inr is ↦ rw is refl
@@ -193,6 +195,7 @@ limits_told P done s v told = elim (cases_Bool (all_named (has done) s v)) [ inl
 
 -- and of each limit that the value of a `$inherit` passes
 pub bases_told : (P : Place → Data → Flaw → Type 0) (done : Members) → ((d : Data) → Each (P places.FieldType d) (limit_flaws done places.FieldType d)) → (s : Place) (k : List ℕ) (d : Data) → Each (P (place_under s k) d) (base_flaws (Some done) s k d)
+unfolding base_flaws
 bases_told P done told s k d = elim (cases_Bool (is_base_name s k)) [ inl is ↦ rw (is, base_place s k is) (told d) | inr is ↦ rw is no_flaw ]
 
 -- nothing is listed where the type fits, and only there
@@ -254,6 +257,7 @@ module _ (done : Members) where
   BaseFits s k d = is_base_name s k ≡ true → FitsAlone places.FieldType d
 
   alike_base : (s : Place) (k : List ℕ) (d : Data) → Alike (base_flaws (Some done) s k d) (base_flaws None s k d) (BaseFits s k d)
+  unfolding base_flaws
   alike_base s k d = elim (cases_Bool (is_base_name s k)) [
     | inl is ↦ (let at : base_flaws (Some done) s k d ≡ limit_flaws done places.FieldType d = rw is refl in
         let a = alike_limit places.FieldType d in

@@ -7,7 +7,7 @@ use Rattle.serde_json.proofs.Views.{items_len-items_view, view-Array}
 use Rattle.conf_tree.specs.{Flaw.{here, Place as Step, key, index, within}, Walk.{refusal, HasMember}, declared.fault_kind.FaultKind.TheVariants.Limit}
 use Rattle.conf_table.specs.{declared.place.Place.Place, Table.{rows_of, entries_of, place_in, content_under}}
 use Rattle.conf_inherit.specs.FieldPlaces.{names_alias, names_member_type, lists_extra_members, place_under, place_of_items, is_entry, field_place, leads_on, lists_members}
-use Rattle.conf_inherit.specs.Flaws.{own_flaws, type_flaws, mark_names, mark, inner_flaws, item_flaws, member_flaws, flaws}
+use Rattle.conf_inherit.specs.Flaws.{own_flaws, base_flaws, type_flaws, mark_names, mark, inner_flaws, item_flaws, member_flaws, flaws}
 use Rattle.conf_inherit.specs.{Limits.limit_flaws, Places.{too_many, place_flaws, max_extra_members, inner_places, item_places, member_places}, Named.has}
 use Rattle.conf_inherit.specs.Faults.{Leads, HasEntry, ListsTooMany}
 use Rattle.conf_inherit.proofs.{FaultLemmas.{member_parts, item_parts, is_still, is_put, same_part, part_empty, joined_empty}, FieldPlaceLemmas.ignored_under}
@@ -262,6 +262,7 @@ not_entry _ h = refl
 module _ (al : Members) where
   -- a value has no flaw of its own where none has a meaning
   own_none : (s : Place) (v : Data) → lists_members s ≡ false → is_entry s ≡ false → names_alias s ≡ false → names_member_type s ≡ false → own_flaws al s false v ≡ []
+  unfolding own_flaws
   own_none s (string x) a b c d = rw (a, b, c, d) refl
   own_none s _ a b c d = rw (a, b, d) refl
 
@@ -271,6 +272,7 @@ module _ (al : Members) where
 
   -- an object has no flaw where the value of its first property and the others have none, and no entry has the name
   member_none : (s : Place) (seen : Members) (k : List ℕ) (d : Data) (ms : Members) → is_entry s ≡ false → flaws al None (place_under s k) false no_members d ≡ [] → member_flaws al None s seen ms ≡ [] → member_flaws al None s seen (member k d ms) ≡ []
+  unfolding base_flaws
   member_none s seen k d ms entry mine rest =
       same_part (within (key k)) _ _ _ [] [] [] (subst (λ b. flaws al None (place_under s k) (b && is_some (get_member k seen)) no_members d ≡ []) (sym entry) mine) refl rest
 

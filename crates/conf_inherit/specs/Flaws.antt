@@ -38,7 +38,7 @@ is_unknown al s (string n) = (names_alias s || names_member_type s) && not (is_s
 is_unknown al s _ = false
 
 -- the flaw of a value itself, where its name may be taken
-abbrev pub own_flaws : Members → Place → Bool → Data → List Flaw
+unfoldable pub own_flaws : Members → Place → Bool → Data → List Flaw
 own_flaws al s taken v =
     if is_wrong s v then here WrongKind ∷ []
     else if is_unknown al s v then here NoSuchAlias ∷ []
@@ -55,7 +55,7 @@ mark (object ms) seen = mark_names ms seen
 mark _ seen = seen
 
 -- the limit that the value of a `$inherit` passes, where the resolved aliases are known
-abbrev pub base_flaws : Option Members → Place → List ℕ → Data → List Flaw
+unfoldable pub base_flaws : Option Members → Place → List ℕ → Data → List Flaw
 base_flaws None s k d = []
 base_flaws (Some done) s k d = if is_base_name s k then limit_flaws done places.FieldType d else []
 

@@ -48,6 +48,7 @@ fn is_unknown(value: &Value, place: Place, aliases: &Map<String, Value>) -> bool
 }
 
 /// Refuses the first flaw of a value itself, where its name may be taken.
+#[tactic(auto, unfolding(crate::specs::Flaws::own_flaws))]
 pub(crate) fn check_itself(
     known: Known,
     value: &Value,
@@ -69,6 +70,7 @@ pub(crate) fn check_itself(
 }
 
 /// Adds the name of an entry to those of the entries so far.
+#[tactic(auto, using(crate::proofs::FaultLemmas::noted))]
 pub(crate) fn mark<'a>(entry: &'a Value, seen: &mut BTreeMap<&'a str, ()>) -> Result<(), AllocError>
     ensures { OnOk result (seen_names seen.new ≡ mark (view entry.now) (seen_names seen.old)) }
 {
@@ -117,7 +119,6 @@ fn check_items(known: Known, items: &Vec<Value>, place: Place) -> Result<(), Con
 }
 
 #[cycle(flaws)]
-#[tactic(auto, using(crate::proofs::FaultLemmas::sound_part))]
 fn check_members(
     known: Known,
     members: &Map<String, Value>,
@@ -137,7 +138,7 @@ fn check_members(
 /// Refuses the first flaw of a property's value and all that is in it, and then the limit that it passes, if the
 /// object inherits from it.
 #[cycle(flaws)]
-#[tactic(auto, using(crate::proofs::FaultLemmas::refused_first, crate::proofs::FaultLemmas::refused_later))]
+#[tactic(auto, using(crate::proofs::FaultLemmas::refused_first, crate::proofs::FaultLemmas::refused_later), unfolding(crate::specs::Flaws::base_flaws))]
 fn check_member(
     known: Known,
     name: &str,
