@@ -389,15 +389,6 @@ pub refused_later : (xs ys : List Flaw) → refusal xs ≡ Ok tt → refusal (xs
 refused_later [] ys e = refl
 refused_later (x ∷ xs) ys e = cc
 
--- the first flaw of a part is the first, seen from the whole
-pub refused_part : (p : Step) (xs ys : List Flaw) (f : Flaw) → refusal xs ≡ Err f → refusal (map (within p) xs ++ ys) ≡ Err (within p f)
-refused_part p [] ys f e = cc
-refused_part p (x ∷ xs) ys f e = let same : x ≡ f = cc in ap (λ g. Err (within p g)) same
-
-pub sound_part : (p : Step) (xs ys : List Flaw) → refusal xs ≡ Ok tt → map (within p) xs ++ ys ≡ ys
-sound_part p [] ys e = refl
-sound_part p (x ∷ xs) ys e = cc
-
 -- ---- a name that is noted, and one that is looked for
 
 pub noted : (es : List (Bor (List ℕ) × ⊤)) (k : Bor (List ℕ)) (v : ⊤) → members_named (insert_entry (λ x y. slice_cmp nat_cmp x.now y.now) es k v) ≡ put k.now null (members_named es)

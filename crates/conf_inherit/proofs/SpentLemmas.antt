@@ -16,8 +16,8 @@ use Rattle.conf_tree.specs.Flaw.{key, index, within}
 use Rattle.conf_table.specs.declared.place.Place.{Place}
 use Rattle.conf_table.specs.declared.place.Place.TheVariants as places
 
-pub view-null : view Null ≡ null
-view-null = search (rules, the_lemmas)
+pub view_null : view Null ≡ null
+view_null = search (rules, the_lemmas)
 
 -- the properties, with w at the name n if there is one
 abbrev pub written : List ℕ → List Entry → Value → List Entry

@@ -14,6 +14,7 @@ use serde_json::{Map, Value};
 use std::alloc::{AllocError, Global};
 
 /// The names of the aliases that have an outcome.
+#[tactic(auto, using(crate::proofs::SpentLemmas::view_null))]
 fn names_over(
     alloc: Global,
     aliases: &Map<String, Value>,

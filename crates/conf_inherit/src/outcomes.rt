@@ -65,6 +65,7 @@ impl AliasOutcomes {
     }
 
     /// Notes that the alias can't be resolved.
+    #[tactic(auto, using(crate::proofs::SpentLemmas::view_null))]
     pub(crate) fn refuse(&mut self, name: &String) -> Result<(), AllocError>
         ensures { OnOk result (outcomes_of self.new ≡ concluded (string_bytes name.now) (outcomes_of self.old) None) }
     {

@@ -1,7 +1,7 @@
 use Rattle.std.proofs.Common.{◌≡◌, Some, None, option_map, sym, ap, ◌∙◌}
 use Rattle.serde_json.specs.{Data.put, Find.get_member, View.{view, members_view}}
 use Rattle.serde_json.proofs.Views.{view-lookup}
-use Rattle.conf_inherit.proofs.SpentLemmas.{written_spent, spent_none, put_written, view-null}
+use Rattle.conf_inherit.proofs.SpentLemmas.{written_spent, spent_none, put_written, view_null}
 use Rattle.conf_inherit.proofs.property.take_property.Goals as goal
 
 pub returns-in-Some-clause-found : goal.returns-in-Some-clause-found
@@ -19,7 +19,7 @@ returns-in-None-clause-found c = ap (option_map view) c.in-None.ensures.value �
 pub returns-in-Some-clause-left : goal.returns-in-Some-clause-left
 returns-in-Some-clause-left c =
     ap members_view (c.get_mut.follows.holds c.replace.new.dest).0
-    ∙ written_spent c.args.name.now c.replace.new.dest c.args.members.now.entries (ap view c.replace.ensures.after ∙ view-null)
+    ∙ written_spent c.args.name.now c.replace.new.dest c.args.members.now.entries (ap view c.replace.ensures.after ∙ view_null)
 
 pub returns-in-None-clause-left : goal.returns-in-None-clause-left
 returns-in-None-clause-left c =
