@@ -19,9 +19,6 @@ returns-clause-settled c =
     follows_all al (outcomes_of c.loop-turn.outcomes) c.loop-turn._turn apart c.loop-turn.invariant.follows (members_len-members_view c.args.aliases.now.entries ∙ sym turns)
     ∙ ap (λ n. rounds al n no_outcomes) turns
 
-pub returns-clause-spent : goal.returns-clause-spent
-returns-clause-spent c = c.loop-turn.invariant.spends
-
 pub returns-then-all_settled-clause-settled : goal.returns-then-all_settled-clause-settled
 returns-then-all_settled-clause-settled c =
     let al = members_view c.args.aliases.now.entries in
@@ -30,9 +27,6 @@ returns-then-all_settled-clause-settled c =
     let is : all_settled left left (outcomes_of c.loop-turn.outcomes) ≡ true = sym c.all_settled.ensures ∙ c.if-all_settled.true in
     rounds_done al left (outcomes_of c.loop-turn.outcomes) c.loop-turn._turn apart c.loop-turn.invariant is
     ∙ ap (λ n. rounds al n no_outcomes) (members_len-members_view c.args.aliases.now.entries)
-
-pub returns-then-all_settled-clause-spent : goal.returns-then-all_settled-clause-spent
-returns-then-all_settled-clause-spent c = c.loop-turn.invariant.spends
 
 pub loop-turn-preserved : goal.loop-turn-preserved
 loop-turn-preserved c =

@@ -1,15 +1,9 @@
-use Rattle.std.proofs.Common.{◌≡◌, true, true≢false, string_bytes, ap, sym, ◌∙◌, subst}
-use Rattle.serde_json.specs.{Data.Members, View.{view, members_view}}
-use Rattle.conf_inherit.specs.{declared.nesting.TheConstants.ALIAS_LEVELS, Nesting.members_nest, Rounds.Outcomes}
+use Rattle.std.proofs.Common.{◌≡◌, true, true≢false, string_bytes, sym, ◌∙◌, subst}
+use Rattle.serde_json.specs.View.{view, members_view}
+use Rattle.conf_inherit.specs.{declared.nesting.TheConstants.ALIAS_LEVELS, Nesting.members_nest}
 use Rattle.conf_inherit.proofs.SizeLemmas.{nest_put}
 use Rattle.conf_inherit.proofs.outcomes.AliasOutcomes.resolve.Goals.{then-self, else-self}
 use Rattle.conf_inherit.proofs.outcomes.AliasOutcomes.resolve.Goals as goal
-
-pub returns : goal.returns
-returns c =
-    let old = c.args.self.now in
-    let with_done : Members → Outcomes = λ m. record { done = m; refused = members_view old.refused.entries } in
-    ap with_done c.in_ok-put_property.ensures
 
 -- with another one that nests at most so deep, all do
 pub invariant_of-self-2 : goal.invariant_of-self-2
