@@ -19,10 +19,9 @@ use Rattle.conf_check.specs.Configuration.{IsConfigurationOf, IsNoConfiguration,
 use Rattle.conf_check.specs.Judgement.{whole, IsJudgedTo, IsFirstFlawOf}
 use Rattle.conf_inherit.proofs.RefusalLemmas.{refusal_excluded}
 use Rattle.conf_inherit.proofs.LookedUp.{one_look}
-use Rattle.conf_laws.proofs.AllowedTraces.{draft_allowed}
-use Rattle.conf_laws.proofs.ExcludedFlaws.{none_left, none_refused}
-use Rattle.conf_laws.proofs.ExcludedLimits.{none_passed}
-use Rattle.conf_laws.proofs.TableFlawLaws.{refused_told}
+use Rattle.conf_laws.proofs.TableFlawLaws.{none_left, none_refused, refused_told}
+use Rattle.conf_laws.proofs.TableLimitLaws.{none_passed}
+use Rattle.conf_laws.proofs.Traces.{draft_allowed}
 use Rattle.conf_check.proofs.ExcludedTexts.{tree_excluded}
 use Rattle.conf_check.proofs.RuleLaws.{Wrong, kept, rule_refused, rules_excluded}
 

@@ -2,7 +2,7 @@ use Rattle.std.proofs.Common.{◌⊎◌, refl}
 use Rattle.std.proofs.lemmas.Result.{err_from_is_err_and}
 use Rattle.serde_json.specs.View.{view}
 use Rattle.conf_judge.specs.Flaws.{configuration_flaws}
-use Rattle.conf_laws.proofs.ExcludedFlaws.{none_refused}
+use Rattle.conf_laws.proofs.TableFlawLaws.{none_refused}
 use Rattle.conf_laws.proofs.Traces.{tree_said}
 use Rattle.conf_tree.specs.Flaw.{flaw_of, IsMemory}
 use Rattle.conf_check.specs.Judgement.{IsJudgedTo, IsFirstFlawOf}
