@@ -68,7 +68,7 @@ fixed_words InheritCycle = Some (codes "a chain of aliases that ends: this alias
 fixed_words ReservedName = Some (codes "a name that the metadata language does not use itself")
 fixed_words NameClash = Some (codes "a name that nothing else in this structure has")
 fixed_words ZeroSizeRecord = Some (codes "an integer, an enumeration or a string in its contexts or its payload")
-fixed_words NoUuid = Some (codes "a UUID of the trace type, or with `auto` one from the caller")
+fixed_words NoUuid = Some (codes "a UUID of the trace type, or with `auto` one from the caller (--uuid of `metadata` and `trace`)")
 fixed_words TwoOrders = Some (codes "only one of `trace-byte-order` and `native-byte-order`")
 fixed_words _ = None
 

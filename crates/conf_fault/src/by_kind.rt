@@ -83,7 +83,9 @@ pub(crate) fn kind_words(kind: FaultKind) -> (Option<&'static str>, Option<&'sta
         ),
         NoUuid => (
             None,
-            Some("a UUID of the trace type, or with `auto` one from the caller"),
+            Some(
+                "a UUID of the trace type, or with `auto` one from the caller (--uuid of `metadata` and `trace`)",
+            ),
         ),
         TwoOrders => (
             None,
@@ -126,7 +128,9 @@ fn words_here(kind: FaultKind, name: &str, content: Option<Content>) -> Option<&
         (OutOfRange, _, Some(Content::At(Place::Range))) => Some(
             "a range inside the integer's numbers, the lowest first",
         ),
-        (OutOfRange, _, Some(Content::At(Place::ElementType))) => Some("an element with bits"),
+        (OutOfRange, _, Some(Content::At(Place::DynamicElementType))) => Some(
+            "an element with bits",
+        ),
         (NotWhole, _, Some(content)) if is_whole(content) => None,
         (NotWhole, _, _) => Some("a whole number of 64 bits, without fraction or exponent"),
         _ => None,
@@ -172,7 +176,9 @@ fn push_limit(said: &mut String, found: &Found<'_>, place: Place) -> Result<(), 
         Some(most) => said.push_str(format!(in found.source.alloc;
             "{most} entries at most"
         )?.as_str()),
-        None => said.push_str("fewer or smaller parts"),
+        None => said.push_str(
+            "at most 8 arrays in one another, 1048576 elements, and 4096 values with what is inherited",
+        ),
     }
 }
 

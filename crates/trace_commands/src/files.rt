@@ -32,7 +32,7 @@ pub enum FileFault {
     #[error("cannot make: {0}")]
     NotMade(ErrorKind),
     /// The folder that is to be made is there.
-    #[error("cannot make: entity already exists (--resume goes on in it)")]
+    #[error("cannot make: entity already exists (--resume goes on in a trace that is there)")]
     IsThere,
     #[error("a write failed")]
     NotWritten,

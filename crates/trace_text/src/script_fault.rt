@@ -12,7 +12,7 @@ use thiserror::Error;
 pub enum ScriptFaultKind {
     #[error("not JSON: expected one JSON value in UTF-8")]
     NotJson,
-    #[error("not of a script's form: expected its properties, each of its kind, and no others")]
+    #[error("not of a script's form: expected an object of its properties, each of its kind, and no others")]
     Shape,
     #[error("no such stream: expected the name of a stream, or of a data stream type")]
     NoSuchStream,

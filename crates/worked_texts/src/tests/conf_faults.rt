@@ -260,6 +260,16 @@ static RULES: &[Row] = &[
         "line 1, column 154: trace/type/data-stream-types/s/event-record-types/e: {}: expected an integer, an enumeration or a string in its contexts or its payload",
     ),
     (
+        "an element without bits",
+        r#"{"trace":{"type":{"native-byte-order":"le","data-stream-types":{"s":{"event-record-types":{"e":{"payload-field-type":{"class":"struct","members":[{"x":{"field-type":{"class":"dynamic-array","element-field-type":{"class":"static-array","length":0,"element-field-type":{"class":"uint","size":8}}}}}]}}}}}}}}"#,
+        r#"line 1, column 212: trace/type/data-stream-types/s/event-record-types/e/payload-field-type/members/0/x/field-type/element-field-type: {"class":"static-array","element-field-type":{"class":"uint"...: expected an element with bits"#,
+    ),
+    (
+        "nine arrays in one another",
+        r#"{"trace":{"type":{"native-byte-order":"le","data-stream-types":{"s":{"event-record-types":{"e":{"payload-field-type":{"class":"struct","members":[{"x":{"field-type":{"class":"static-array","length":1,"element-field-type":{"class":"static-array","length":1,"element-field-type":{"class":"static-array","length":1,"element-field-type":{"class":"static-array","length":1,"element-field-type":{"class":"static-array","length":1,"element-field-type":{"class":"static-array","length":1,"element-field-type":{"class":"static-array","length":1,"element-field-type":{"class":"static-array","length":1,"element-field-type":{"class":"static-array","length":1,"element-field-type":{"class":"uint","size":8}}}}}}}}}}}}]}}}}}}}}"#,
+        r#"line 1, column 166: trace/type/data-stream-types/s/event-record-types/e/payload-field-type/members/0/x/field-type: {"class":"static-array","element-field-type":{"class":"stati...: expected at most 8 arrays in one another, 1048576 elements, and 4096 values with what is inherited"#,
+    ),
+    (
         "no clock",
         r#"{"trace":{"type":{"native-byte-order":"le","clock-types":{"c":{}},"data-stream-types":{"s":{"$default-clock-type-name":"x"}}}}}"#,
         r#"line 1, column 120: trace/type/data-stream-types/s/$default-clock-type-name: "x": expected the name of a clock type (there are `c`)"#,
@@ -267,7 +277,7 @@ static RULES: &[Row] = &[
     (
         "no UUID",
         r#"{"trace":{"type":{"native-byte-order":"le","uuid":"auto"}}}"#,
-        r#"line 1, column 51: trace/type/uuid: "auto": expected a UUID of the trace type, or with `auto` one from the caller"#,
+        r#"line 1, column 51: trace/type/uuid: "auto": expected a UUID of the trace type, or with `auto` one from the caller (--uuid of `metadata` and `trace`)"#,
     ),
     (
         "two byte orders",
