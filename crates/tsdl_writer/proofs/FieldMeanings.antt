@@ -1,8 +1,7 @@
 -- What the trees of field types mean: the integer, the enumeration, the string or the array that they were made of.
-use Rattle.tsdl_writer.proofs.TreeWords.{All, All-head, All-tail, AllByRecursion, Contains, IsLeaf, IsMappedTo, bytes_eq-Decides, false≢true, suc, zero, sym, ◌<◌, Base, Bin, Bool, ByteString, FieldType, Int, IntType, IsNest, IsRange, Known, Labelled, Leaf, List, Mapping, MemberType, None, Number, Option, Plain, Some, [], ap, are_lengths, arith, arrays_of, attributes, base_value, bracketed, bytes_eq, cases_Bool, chain_of, clock_value, count_bracket, count_of, each, entries_of, entry_meaning, entry_tree, entry_trees, enum_meaning, false, flag_value, high_number, high_of, inl, inr, int_le, int_meaning, int_type, int_type-own, integer_attributes, ints, kind_meaning, kind_tree, le-leb, length, length-map, list_any, map, nat_le, negsuc, pos, refl, signed_of, text_meaning, true, whole_number, ℕ, ℤ, ◌^◌, ◌∙◌, ◌∷◌, ◌≡◌, ◌≤ℤ◌, ◌≤◌}
+use Rattle.tsdl_writer.proofs.TreeWords.{All, All-head, All-tail, At, Contains, Dyn, list_all,  IsLeaf, IsMappedTo, bytes_eq-Decides, false≢true, suc, zero, sym, ◌<◌, Base, Bin, Bool, ByteString, FieldType, Int, IntType, IsNest, IsRange, Known, Labelled, Leaf, List, Mapping, MemberType, None, Number, Option, Plain, Some, [], ap, are_lengths, arith, arrays_of, attributes, base_value, bracketed, bytes_eq, cases_Bool, chain_of, clock_value, count_bracket, count_of, each, entries_of, entry_meaning, entry_tree, entry_trees, enum_meaning, false, flag_value, high_number, high_of, inl, inr, int_le, int_meaning, int_type, int_type-own, integer_attributes, ints, kind_meaning, kind_tree, le-leb, length, length-map, list_any, map, nat_le, negsuc, pos, refl, signed_of, text_meaning, true, whole_number, ℕ, ℤ, ◌^◌, ◌∙◌, ◌∷◌, ◌≡◌, ◌≤ℤ◌, ◌≤◌}
 use Rattle.ctf_types.specs.declared.EnumType.{EnumType}
 use Rattle.ctf_types.specs.Allowed as allowed
-use Rattle.ctf_types.specs.Laws.{IsAutomatic}
 use Rattle.tsdl_grammar.specs.MemberMeaning.{elements_of}
 
 -- the clock that an integer is mapped to is a clock of the text
@@ -100,8 +99,12 @@ abbrev pub Members : Type 0
 Members = List (List ℕ × MemberType)
 
 -- members without a listed length
+abbrev pub is_automatic : MemberType → Bool
+is_automatic (Dyn t (At i)) = false
+is_automatic _ = true
+
 abbrev pub AreAutomatic : Members → Type 0
-AreAutomatic ms = AllByRecursion (λ m. IsAutomatic m.1) ms
+AreAutomatic ms = list_all (λ m. is_automatic m.1) ms ≡ true
 
 -- no array at all
 pub no_nest : IsNest []

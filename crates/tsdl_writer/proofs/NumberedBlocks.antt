@@ -1,5 +1,5 @@
 -- Blocks that are numbered in their order: what stands in them, and that by their numbers they keep it.
-use Rattle.tsdl_writer.proofs.TreeWords.{Event, EventType, List, Option, Some, Stream, StreamType, [], ap, append-nil, arith, by_number, cases_Bool, cases_lt, each, eq-eqb, eqb, event_of, false, flat_map, have_streams, inl, inr, length, list_any, lt-ltb, ltb, map, nat_tests, refl, stream_of, streams_of, true, with_events, ℕ, ◌++◌, ◌+◌, ◌<◌, ◌>>=◌, ◌∙◌, ◌∷◌, ◌≡◌, ◌≤◌}
+use Rattle.tsdl_writer.proofs.TreeWords.{Event, EventType, List, Option, Some, Stream, StreamType, [], ap, append-nil, arith, by_number, cases_Bool, cases_lt, each, eq-eqb, eqb, event_of, false, flat_map, have_streams, inl, inr, length, list_any, lt-ltb, ltb, map, nat_tests, numbered, refl, stream_of, streams_of, true, with_events, ℕ, ◌++◌, ◌+◌, ◌<◌, ◌>>=◌, ◌∙◌, ◌∷◌, ◌≡◌, ◌≤◌}
 use Rattle.std.proofs.lemmas.List.Folds.{list_all-append}
 use Rattle.ctf_types.specs.MetadataOf as meta
 use Rattle.tsdl_grammar.specs.Laws.{NumbersRise}
@@ -27,16 +27,14 @@ unfoldable pub bare : ℕ → StreamType → Stream
 bare n s = record (stream_of n s) { events = [] }
 
 abbrev pub bares : ℕ → List StreamType → List Stream
-bares n [] = []
-bares n (s ∷ ss) = bare n s ∷ bares (n + 1) ss
+bares n ss = numbered (λ id s. bare id s ∷ []) n ss
 
 -- the events of a configuration, with the numbers of their streams
 abbrev pub tagged : ℕ → List Event → List (ℕ × Event)
 tagged n es = map (λ e. (n, e)) es
 
 abbrev pub all_tagged : ℕ → List StreamType → List (ℕ × Event)
-all_tagged n [] = []
-all_tagged n (s ∷ ss) = tagged n (meta.events_of 0 s.events) ++ all_tagged (n + 1) ss
+all_tagged n ss = numbered (λ stream s. tagged stream (meta.events_of 0 s.events)) n ss
 
 pub bare-id : (n : ℕ) (s : StreamType) → (bare n s).id ≡ n
 unfolding bare stream_of
@@ -75,15 +73,12 @@ tagged_have : (streams : List Stream) (n : ℕ) (es : List Event) → list_any (
 tagged_have streams n [] h = refl
 tagged_have streams n (e ∷ es) h = rw (h, tagged_have streams n es h) refl
 
-all_have : (all : List StreamType) (n : ℕ) (ss : List StreamType) → n + length ss ≤ length all → have_streams (bares 0 all) (all_tagged n ss) ≡ true
+pub all_have : (all : List StreamType) (n : ℕ) (ss : List StreamType) → n + length ss ≤ length all → have_streams (bares 0 all) (all_tagged n ss) ≡ true
 all_have all n [] h = refl
 all_have all n (s ∷ ss) h =
     let here = tagged_have (bares 0 all) n (meta.events_of 0 s.events) (stream_there 0 n all (omega arith) (omega arith)) in
     let rest = all_have all (n + 1) ss (omega arith) in
     list_all-append (λ (e : ℕ × Event). list_any (λ (s : Stream). eqb s.id e.0) (bares 0 all)) (tagged n (meta.events_of 0 s.events)) (all_tagged (n + 1) ss) ∙ rw (here, rest) refl
-
-pub have_all_streams : (ss : List StreamType) → have_streams (bares 0 ss) (all_tagged 0 ss) ≡ true
-have_all_streams ss = all_have ss 0 ss (omega arith)
 
 picked-append : (k : ℕ) (xs ys : List (ℕ × Event)) → denotes.events_of k (xs ++ ys) ≡ denotes.events_of k xs ++ denotes.events_of k ys
 picked-append k [] ys = refl
@@ -110,18 +105,11 @@ with-own : (events : List (ℕ × Event)) (n : ℕ) (s : StreamType) → denotes
 unfolding bare stream_of
 with-own events n s e = rw (e, by_number_kept (λ e. e.id) (meta.events_of 0 s.events) (events_rise 0 s.events)) refl
 
-each_with : (events : List (ℕ × Event)) (n : ℕ) (ss : List StreamType) → ((k : ℕ) → n ≤ k → denotes.events_of k events ≡ denotes.events_of k (all_tagged n ss))
+pub each_with : (events : List (ℕ × Event)) (n : ℕ) (ss : List StreamType) → ((k : ℕ) → n ≤ k → denotes.events_of k events ≡ denotes.events_of k (all_tagged n ss))
     → each (with_events events) (bares n ss) ≡ Some (streams_of n ss)
 unfolding streams_of
 each_with events n [] h = refl
 each_with events n (s ∷ ss) h =
-    let own : denotes.events_of n events ≡ meta.events_of 0 s.events =
-    h n (omega arith) ∙ picked-append n (tagged n (meta.events_of 0 s.events)) (all_tagged (n + 1) ss)
-    ∙ rw (picked_own n (meta.events_of 0 s.events), picked_none n (n + 1) ss (omega arith)) (append-nil (meta.events_of 0 s.events)) in
-    let rest = each_with events (n + 1) ss (λ k le.
-    h k (omega arith) ∙ picked-append k (tagged n (meta.events_of 0 s.events)) (all_tagged (n + 1) ss)
-    ∙ rw (picked_other k n (meta.events_of 0 s.events) (eqb-apart n k (omega arith)).0) refl) in
+    let own = h n (omega arith) ∙ simp (picked-append, picked_own, picked_none n (n + 1) ss (omega arith), append-nil) in
+    let rest = each_with events (n + 1) ss (λ k le. h k (omega arith) ∙ simp (picked-append, picked_other k n (meta.events_of 0 s.events) (eqb-apart n k (omega arith)).0)) in
     rw (with-own events n s own, rest) refl
-
-pub each_has_its_events : (ss : List StreamType) → each (with_events (all_tagged 0 ss)) (bares 0 ss) ≡ Some (streams_of 0 ss)
-each_has_its_events ss = each_with (all_tagged 0 ss) 0 ss (λ k le. refl)

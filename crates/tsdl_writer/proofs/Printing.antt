@@ -3,15 +3,18 @@ pub use Rattle.tsdl_writer.proofs.TreeWords.{All, All-more, Atom, Auto, Base, Be
 use Rattle.std.proofs.lemmas.Result.{on_ok_weaker}
 use Rattle.tsdl_grammar.specs.declared.atom.Atom.TheVariants as atoms
 use Rattle.tsdl_grammar.specs.declared.token.Mark.TheVariants as marks
-use Rattle.tsdl_grammar.specs.declared.tree.Block.TheVariants as blocks
+use Rattle.tsdl_writer.proofs.TreeWords.{Item}
+
+-- tokens as they stand behind one another, however trees group them
+pub ruleset groups = (append_assoc, flat_map-append, append-nil)
 
 -- tokens in front of others, grouped as a tree groups them
 pub regroup : {p : Printer} {text : List ℕ} (a b rest : List Atom) → Ends p (a ++ (b ++ rest)) text → Ends p (a ++ b ++ rest) text
-regroup {p} {text} a b rest e = subst (λ (w : List Atom). Ends p w text) (sym (append_assoc a b rest)) e
+regroup a b rest e = rw append_assoc e
 
 -- the tokens of two lists of trees
 pub pair : {A : Type 0} {p : Printer} {text : List ℕ} (toks : A → List Atom) (xs ys : List A) (rest : List Atom) → Ends p (flat_map toks xs ++ (flat_map toks ys ++ rest)) text → Ends p (flat_map toks (xs ++ ys) ++ rest) text
-pair {A} {p} {text} toks xs ys rest e = subst (λ (w : List Atom). Ends p (w ++ rest) text) (sym (flat_map-append toks xs ys)) (regroup (flat_map toks xs) (flat_map toks ys) rest e)
+pair toks xs ys rest e = simp groups e
 
 -- a last call, whose result is returned as it is
 pub last : {X E P Q : Type 0} (r : Result X E) → OnOk r P → (P → Q) → OnOk r Q
@@ -26,13 +29,10 @@ begun p whole = record { on = λ rest text e. e }
 
 -- one more item is printed
 pub one_more : {o p q : Printer} {whole left : List Atom} (a after : List Atom) → Leaves o p whole left → left ≡ a ++ after → Prints p q a → Leaves o q whole after
-one_more {o} {p} {q} a after before e one = record {
-  on = λ rest text h.
-      before.on rest text (subst (λ (w : List Atom). Ends p (w ++ rest) text) (sym e) (regroup a after rest (one (after ++ rest) text h)));
-}
+one_more a after before e one = record { on = λ rest text h. before.on rest text (rw e (simp append_assoc (one (after ++ rest) text h))) }
 
 pub all_printed : {o p : Printer} {whole left : List Atom} → Leaves o p whole left → left ≡ [] → Prints o p whole
-all_printed {o} {p} before e rest text h = before.on rest text (subst (λ (w : List Atom). Ends p (w ++ rest) text) (sym e) h)
+all_printed before e rest text h = before.on rest text (rw e h)
 
 -- what is left of a list, from the item at a place on
 pub item : {A : Type 0} (xs : List A) (i : ℕ) (x : A) → i < length xs → x ≡ get_or xs i x → drop i xs ≡ x ∷ drop (i + 1) xs
@@ -80,10 +80,11 @@ pub uuid_stands : (field : Option IntType) → is_none field ≡ false → uuid_
 uuid_stands None off e = absurd cc
 uuid_stands (Some t) off e = cc
 
--- a block
-pub block : {p : Printer} {text : List ℕ} (w : List ℕ) (inner rest : List Atom) → Ends p (atoms.Word w ∷ atoms.Mark marks.OpenBrace ∷ (inner ++ atoms.Mark marks.CloseBrace ∷ atoms.Mark marks.Semicolon ∷ rest)) text
-    → Ends p (atoms.Word w ∷ braced inner ++ atoms.Mark marks.Semicolon ∷ [] ++ rest) text
-block w inner rest e = simp append_assoc e
+-- a block of three lists of items
+pub block : {p : Printer} {text : List ℕ} (w : List ℕ) (xs ys zs : List Item) (rest : List Atom)
+    → Ends p (atoms.Word w ∷ atoms.Mark marks.OpenBrace ∷ (flat_map item_toks xs ++ (flat_map item_toks ys ++ (flat_map item_toks zs ++ atoms.Mark marks.CloseBrace ∷ atoms.Mark marks.Semicolon ∷ rest)))) text
+    → Ends p (atoms.Word w ∷ braced (flat_map item_toks (xs ++ ys ++ zs)) ++ atoms.Mark marks.Semicolon ∷ [] ++ rest) text
+block w xs ys zs rest e = simp groups e
 
 flat_map-flat_map : {A B : Type 0} (f : B → List Atom) (g : A → List B) (xs : List A) → flat_map f (flat_map g xs) ≡ flat_map (λ x. flat_map f (g x)) xs
 flat_map-flat_map f g [] = refl
@@ -112,11 +113,4 @@ pub environment_stands : {p : Printer} {text : List ℕ} (es : List EnvironmentE
     → Ends p (atoms.Word (codes "env") ∷ atoms.Mark marks.OpenBrace ∷ (flat_map named_fact_toks (map named_fact_tree es) ++ (atoms.Mark marks.CloseBrace ∷ atoms.Mark marks.Semicolon ∷ rest))) text
     → Ends p (flat_map block_and_semicolon (environment_blocks es) ++ rest) text
 environment_stands [] rest some e = absurd (some refl)
-environment_stands (x ∷ es) rest some e =
-    let facts = map named_fact_tree (x ∷ es) in
-    nothing_behind (block_and_semicolon (blocks.Environment facts)) rest (block (codes "env") (flat_map named_fact_toks facts) rest e)
-
--- an integer's attributes, by its parts
-pub attributes_are : (t : IntType) (size align : ℕ) (signed : Bool) (base : Base) (clock : Option (List ℕ)) → size ≡ t.size → align ≡ t.align → signed ≡ t.signed → base ≡ t.base → clock ≡ t.clock
-    → attributes size align signed base clock ≡ integer_attributes t
-attributes_are t size align signed base clock a b c d e = rw (a, b, c, d, e) refl
+environment_stands (x ∷ es) rest some e = simp groups (simp groups at e)

@@ -2,31 +2,10 @@
 use Rattle.tsdl_writer.proofs.TreeWords.{AllByRecursion, recursion_from_All, All, All-head, All-tail, All-weaker, EventType, IsConfigStruct, IsEventType, IsStream, IsStreamType, IsStruct, IsUnsigned, Known, List, MemberType, Some, StreamType, StructType, [], all_event_blocks, ap, bytes_eq, cases_Bool, codes, context_names, context_numbers, context_of, each, event_blocks, event_header_members, event_header_of, event_in, event_items, event_meaning, event_of, false≢true, flat_map, flat_map-append, has_member, inl, inr, list_any, no_members_shown, refl, shown_members, shown_struct, stream_blocks, stream_in, stream_items, stream_meaning, stream_of, streams_of, struct_is_allowed, struct_with, struct_with-members, structure_of, subst, sym, true, ℕ, ◌++◌, ◌+◌, ◌∙◌, ◌∷◌, ◌≡◌}
 use Rattle.ctf_types.specs.MetadataOf as meta
 use Rattle.tsdl_writer.proofs.FieldMeanings.{Members}
-use Rattle.tsdl_writer.proofs.StructureMeanings.{found, structure_read}
-use Rattle.tsdl_writer.proofs.StructuresRead.{config_are_automatic, automatic-append, context_automatic, event_header_automatic, event_header_shown, all_suit}
+use Rattle.tsdl_writer.proofs.StructureMeanings.{structure_read}
+use Rattle.tsdl_writer.proofs.StructuresRead.{context_shows, event_header_shows, config_shows, all_suit}
 use Rattle.tsdl_writer.proofs.BlockMeanings.{StreamIsRead, stream_is, event_is}
 use Rattle.tsdl_writer.proofs.NumberedBlocks.{each-append, bare-id, bare, bares, tagged, all_tagged}
-
-config_struct_read : (known : Known) (s : StructType) → IsConfigStruct s → structure_of known (found s.members s.min_align) ≡ Some (shown_struct s)
-config_struct_read known s h = structure_read known s.members s.min_align (shown_struct s) refl (λ e. refl) (config_are_automatic s.members h.members) (struct_is_allowed known.clocks s h)
-
-pub struct_with-align : (ms : Members) → (ms ≡ [] → ⊥) → (struct_with ms).min_align ≡ 8
-struct_with-align [] h = absurd (h refl)
-struct_with-align (m ∷ ms) h = refl
-
-context_read : (known : Known) (s : StreamType) → IsStreamType known.clocks s → IsStruct known.clocks (context_of s)
-    → structure_of known (found (context_numbers s.context ++ s.extras.members) 8) ≡ Some (context_of s)
-unfolding context_of
-context_read known s t h =
-    let ms = context_numbers s.context ++ s.extras.members in
-    structure_read known ms 8 (struct_with (shown_members 0 ms)) (struct_with-members (shown_members 0 ms)) (λ some. struct_with-align (shown_members 0 ms) (λ e. some (no_members_shown 0 ms e)))
-    (automatic-append (context_numbers s.context) s.extras.members (context_automatic s.context) (config_are_automatic s.extras.members t.extras)) h
-
-event_header_read : (known : Known) (s : StreamType) → IsStruct known.clocks (event_header_of s) → structure_of known (found (event_header_members s.event_header) 8) ≡ Some (event_header_of s)
-unfolding event_header_of
-event_header_read known s h =
-    let ms = event_header_members s.event_header in
-    structure_read known ms 8 (struct_with ms) (struct_with-members ms ∙ event_header_shown s.event_header) (struct_with-align ms) (event_header_automatic s.event_header) h
 
 one_id : (m : List ℕ × MemberType) → (bytes_eq m.0 (codes "id") ≡ true → IsUnsigned m.1) → list_any (bytes_eq m.0) (codes "id" ∷ []) ≡ true → IsUnsigned m.1
 one_id m h k = elim (cases_Bool (bytes_eq m.0 (codes "id"))) [ inl e ↦ h e | inr e ↦ absurd (false≢true (sym (rw e refl) ∙ k)) ]
@@ -39,9 +18,9 @@ stream_read : (known : Known) (n : ℕ) (s : StreamType) → IsStreamType known.
     → StreamIsRead known (context_numbers s.context ++ s.extras.members) (event_header_members s.event_header) s.common.members s.common.min_align (bare n s)
 unfolding bare stream_of
 stream_read known n s t h = record {
-  context_read = context_read known s t h.context;
-  header_read = event_header_read known s h.event_header;
-  common_read = config_struct_read known s.common t.common;
+  context_read = structure_read known (context_numbers s.context ++ s.extras.members) 8 (context_of s) (context_shows known.clocks s t h.context);
+  header_read = structure_read known (event_header_members s.event_header) 8 (event_header_of s) (event_header_shows known.clocks s h.event_header);
+  common_read = structure_read known s.common.members s.common.min_align (shown_struct s.common) (config_shows known.clocks s.common t.common);
   context_suits = all_suit context_names (context_of s).members (recursion_from_All _ _ h.own_are_unsigned);
   header_suits = all_suit (codes "id" ∷ []) (event_header_of s).members (recursion_from_All _ _ (All-weaker _ _ one_id (event_header_of s).members h.id));
   packet_size = (has_sizes s).0;
@@ -65,7 +44,9 @@ streams_read known n (s ∷ ss) t h = rw (stream_block_read known n s t.0 h.0, s
 event_block_read : (known : Known) (stream n : ℕ) (s : StreamType) (e : EventType) → IsEventType s e → event_meaning known (event_items stream n e.name e.log_level e.specific.members e.specific.min_align e.payload.members e.payload.min_align) ≡ Some (stream, event_of n e)
 unfolding event_of
 event_block_read known stream n s e h =
-    event_is known stream (event_of n e) e.specific.members e.specific.min_align e.payload.members e.payload.min_align (config_struct_read known e.specific h.specific) (config_struct_read known e.payload h.payload)
+    event_is known stream (event_of n e) e.specific.members e.specific.min_align e.payload.members e.payload.min_align
+    (structure_read known e.specific.members e.specific.min_align (shown_struct e.specific) (config_shows known.clocks e.specific h.specific))
+    (structure_read known e.payload.members e.payload.min_align (shown_struct e.payload) (config_shows known.clocks e.payload h.payload))
 
 events_read : (known : Known) (stream n : ℕ) (s : StreamType) (es : List EventType) → All (IsEventType s) es → each (event_meaning known) (flat_map event_in (event_blocks stream n es)) ≡ Some (tagged stream (meta.events_of n es))
 unfolding meta.events_of

@@ -83,7 +83,7 @@ members_meant known n before ((name, Plain t) ∷ ms) len a h new apart =
     let more = before ++ (name, Plain t) ∷ [] in
     let longer : length more ≡ n + 1 = omega (arith, length-append before ((name, Plain t) ∷ [])) in
     one_more known before (member_tree name (chain_of t) []) (flat_map member_trees ms) (Plain t) (Some (before ++ (name, Plain t) ∷ shown_members (n + 1) ms)) new.0 (plain_tree_meant known before name t h.0)
-    (members_meant known (n + 1) more ms longer a.1 h.1 (all_still_new before name (Plain t) names new.1 (IsDistinct-head bytes_eq name names apart)) (IsDistinct-tail bytes_eq name names apart)
+    (members_meant known (n + 1) more ms longer a h.1 (all_still_new before name (Plain t) names new.1 (IsDistinct-head bytes_eq name names apart)) (IsDistinct-tail bytes_eq name names apart)
     ∙ ap Some (append_assoc before ((name, Plain t) ∷ []) (shown_members (n + 1) ms)))
 members_meant known n before ((name, Dyn t Auto) ∷ ms) len a h new apart =
     let names = names_in (shown_members (n + 2) ms) in
@@ -97,9 +97,9 @@ members_meant known n before ((name, Dyn t Auto) ∷ ms) len a h new apart =
     let new2 = all_still_new before (length_name name) (Plain (Int length_type)) (name ∷ names) new.1 behind in
     one_more known before (length_member name) (array_member name (chain_of t) ∷ flat_map member_trees ms) (Plain (Int length_type)) (Some (before ++ first ∷ second ∷ shown_members (n + 2) ms)) new.0 (length_meant known before name)
     (one_more known with_length (array_member name (chain_of t)) (flat_map member_trees ms) (Dyn t (At n)) (Some (before ++ first ∷ second ∷ shown_members (n + 2) ms)) new2.0 (array_meant known before n name t len new.0 h.1.0.0 h.1.0.1)
-    (members_meant known (n + 2) with_array ms longer a.1 h.1.1 (all_still_new with_length name (Dyn t (At n)) names new2.1 (IsDistinct-head bytes_eq name names apart2)) (IsDistinct-tail bytes_eq name names apart2)
+    (members_meant known (n + 2) with_array ms longer a h.1.1 (all_still_new with_length name (Dyn t (At n)) names new2.1 (IsDistinct-head bytes_eq name names apart2)) (IsDistinct-tail bytes_eq name names apart2)
     ∙ ap Some (append_assoc with_length (second ∷ []) (shown_members (n + 2) ms) ∙ append_assoc before (first ∷ []) (second ∷ shown_members (n + 2) ms))))
-members_meant known n before ((name, Dyn t (At i)) ∷ ms) len a h new apart = absurd a.0
+members_meant known n before ((name, Dyn t (At i)) ∷ ms) len a h new apart = absurd cc
 
 all_new : (names : List (List ℕ)) → AreNew [] names
 all_new [] = tt
@@ -108,9 +108,9 @@ all_new (w ∷ names) = (refl, all_new names)
 same_count : (n : ℕ) (ms : Members) → AreAutomatic ms → length (flat_map member_trees ms) ≡ length (shown_members n ms)
 unfolding shown_members
 same_count n [] h = refl
-same_count n ((name, Plain t) ∷ ms) h = ap (λ (k : ℕ). suc k) (same_count (n + 1) ms h.1)
-same_count n ((name, Dyn t Auto) ∷ ms) h = ap (λ (k : ℕ). suc (suc k)) (same_count (n + 2) ms h.1)
-same_count n ((name, Dyn t (At i)) ∷ ms) h = absurd h.0
+same_count n ((name, Plain t) ∷ ms) h = ap (λ (k : ℕ). suc k) (same_count (n + 1) ms h)
+same_count n ((name, Dyn t Auto) ∷ ms) h = ap (λ (k : ℕ). suc (suc k)) (same_count (n + 2) ms h)
+same_count n ((name, Dyn t (At i)) ∷ ms) h = absurd cc
 
 align_meant : (t : StructType) → align_of (Some (natural_number t.min_align)) ≡ Some t.min_align
 align_meant t =
@@ -120,7 +120,7 @@ align_meant t =
 
 align_with-some : (m : List ℕ × MemberType) (ms : Members) (n align : ℕ) → AreAutomatic (m ∷ ms) → align_with (shown_members n (m ∷ ms)) align ≡ align
 unfolding shown_members
-align_with-some (name, Dyn t (At i)) ms n align h = absurd h.0
+align_with-some (name, Dyn t (At i)) ms n align h = absurd cc
 align_with-some _ ms n align h = refl
 
 -- the structure that is left out where it has no members
@@ -132,18 +132,24 @@ no_shown : (t : StructType) → t.members ≡ shown_members 0 [] → t.members �
 unfolding shown_members
 no_shown t e = e
 
--- a structure that metadata's rules allow is what its tree means
-pub structure_read : (known : Known) (ms : Members) (align : ℕ) (t : StructType) → t.members ≡ shown_members 0 ms → ((ms ≡ [] → ⊥) → t.min_align ≡ align) → AreAutomatic ms → IsStruct known.clocks t
-    → structure_of known (found ms align) ≡ Some t
+-- a structure of metadata that is allowed, and that these members of a configuration make
+pub record Shows (clocks : List (List ℕ)) (ms : Members) (align : ℕ) (t : StructType) : Type 0 where
+  pub same : t.members ≡ shown_members 0 ms
+  pub aligned : (ms ≡ [] → ⊥) → t.min_align ≡ align
+  pub automatic : AreAutomatic ms
+  pub allowed : IsStruct clocks t
+
+-- it is what its tree means
+pub structure_read : (known : Known) (ms : Members) (align : ℕ) (t : StructType) → Shows known.clocks ms align t → structure_of known (found ms align) ≡ Some t
 unfolding struct_meaning
-structure_read known [] align t same aligned a h = struct_type-gives t [] 1 (no_shown t same) (h.empty (no_shown t same))
-structure_read known (m ∷ ms) align t same align_of_some a h =
-    let aligned : t.min_align ≡ align = align_of_some (λ e. cc) in
+structure_read known [] align t h = let none = no_shown t h.same in struct_type-gives t [] 1 none (h.allowed.empty none)
+structure_read known (m ∷ ms) align t h =
+    let aligned : t.min_align ≡ align = h.aligned (λ e. cc) in
     let shown : List (List ℕ × MemberType) = shown_members 0 (m ∷ ms) in
-    let allowed = subst (AreMembers known.clocks []) same h.members in
-    let apart = subst (λ (l : Members). IsDistinct bytes_eq (names_in l)) same h.distinct in
-    let fits : length (flat_map member_trees (m ∷ ms)) ≤ 1024 = rw (same_count 0 (m ∷ ms) a) (subst (λ (l : Members). length l ≤ 1024) same h.few) in
+    let allowed = subst (AreMembers known.clocks []) h.same h.allowed.members in
+    let apart = subst (λ (l : Members). IsDistinct bytes_eq (names_in l)) h.same h.allowed.distinct in
+    let fits : length (flat_map member_trees (m ∷ ms)) ≤ 1024 = rw (same_count 0 (m ∷ ms) h.automatic) (subst (λ (l : Members). length l ≤ 1024) h.same h.allowed.few) in
     let few : nat_le (length (flat_map member_trees (m ∷ ms))) 1024 ≡ true = le-leb (length (flat_map member_trees (m ∷ ms))) 1024 fits in
-    let members = members_meant known 0 [] (m ∷ ms) refl a allowed (all_new (names_in shown)) apart in
+    let members = members_meant known 0 [] (m ∷ ms) refl h.automatic allowed (all_new (names_in shown)) apart in
     let align_is : align_of (Some (natural_number align)) ≡ Some align = subst (λ (k : ℕ). align_of (Some (natural_number k)) ≡ Some k) aligned (align_meant t) in
-    rw (few, members, align_is, align_with-some m ms 0 align a) (struct_type-gives t shown align same aligned)
+    rw (few, members, align_is, align_with-some m ms 0 align h.automatic) (struct_type-gives t shown align h.same aligned)

@@ -1,51 +1,24 @@
 -- The structures of an allowed configuration's metadata are what their trees mean, and their members have the types that their names ask for.
-use Rattle.tsdl_writer.proofs.TreeWords.{All, All-head, All-tail, AllByRecursion, AreConfigMembers, At, Dyn, Int, IntType, IsByteType, IsConfigMember, IsIdentity, IsMagic, IsUnsigned, Leaf, List, MemberType, None, Number, Option, Plain, Some, Static, [], bytes_eq, cases_Bool, codes, context_numbers, event_header_members, header_members, inl, inr, is_byte, is_unsigned, is_unsigned_of, is_uuid, list_all, list_any, number_member, refl, shown_members, suits, suits_header, true, uuid_member, ℕ, ◌++◌, ◌∷◌, ◌≡◌}
-use Rattle.ctf_types.specs.declared.HeaderFeatures.{HeaderFeatures}
-use Rattle.ctf_types.specs.declared.ContextFeatures.{ContextFeatures}
-use Rattle.ctf_types.specs.declared.EventFeatures.{EventFeatures}
-use Rattle.ctf_types.specs.Laws.{IsAutomatic}
-use Rattle.tsdl_writer.proofs.FieldMeanings.{Members, AreAutomatic}
+use Rattle.tsdl_writer.proofs.TreeWords.{Config, IsConfigStruct, IsStreamType, IsStruct, StreamType, StructType, context_of, event_header_of, header_of, no_members_shown, shown_struct, struct_is_allowed, struct_with, struct_with-members, ◌∙◌, All, All-head, All-tail, AllByRecursion, AreConfigMembers, At, Dyn, Int, IntType, IsByteType, IsConfigMember, IsIdentity, IsMagic, IsUnsigned, Leaf, List, MemberType, None, Number, Option, Plain, Some, Static, [], bytes_eq, cases_Bool, codes, context_numbers, event_header_members, header_members, inl, inr, is_byte, is_unsigned, is_unsigned_of, is_uuid, list_all, list_any, number_member, refl, shown_members, suits, suits_header, true, uuid_member, ℕ, ◌++◌, ◌∷◌, ◌≡◌}
+use Rattle.std.proofs.lemmas.List.Folds.{list_all-append}
+use Rattle.tsdl_writer.proofs.FieldMeanings.{Members, is_automatic, AreAutomatic}
+use Rattle.tsdl_writer.proofs.StructureMeanings.{Shows}
 
-config_automatic : (t : MemberType) → IsConfigMember t → IsAutomatic t
-config_automatic (Dyn t (At i)) h = h
-config_automatic _ h = tt
+config_automatic : (t : MemberType) → IsConfigMember t → is_automatic t ≡ true
+config_automatic (Dyn t (At i)) h = absurd h
+config_automatic _ h = refl
 
 all_automatic : (ms : Members) → All (λ m. IsConfigMember m.1) ms → AreAutomatic ms
-all_automatic [] h = tt
-all_automatic (m ∷ ms) h = (config_automatic m.1 (All-head (λ (k : List ℕ × MemberType). IsConfigMember k.1) m ms h), all_automatic ms (All-tail (λ (k : List ℕ × MemberType). IsConfigMember k.1) m ms h))
-
-pub config_are_automatic : (ms : Members) → AreConfigMembers ms → AreAutomatic ms
-config_are_automatic ms h = all_automatic ms h.types
-
-pub automatic-append : (ms ns : Members) → AreAutomatic ms → AreAutomatic ns → AreAutomatic (ms ++ ns)
-automatic-append [] ns a b = b
-automatic-append (m ∷ ms) ns a b = (a.0, automatic-append ms ns a.1 b)
+all_automatic [] h = refl
+all_automatic (m ∷ ms) h = rw (config_automatic m.1 (All-head (λ (k : List ℕ × MemberType). IsConfigMember k.1) m ms h), all_automatic ms (All-tail (λ (k : List ℕ × MemberType). IsConfigMember k.1) m ms h)) refl
 
 number_automatic : (name : List ℕ) (o : Option IntType) → AreAutomatic (number_member name o)
-number_automatic name None = tt
-number_automatic name (Some t) = (tt, tt)
+number_automatic name None = refl
+number_automatic name (Some t) = refl
 
 uuid_automatic : (o : Option IntType) → AreAutomatic (uuid_member o)
-uuid_automatic None = tt
-uuid_automatic (Some t) = (tt, tt)
-
-pub header_automatic : (f : HeaderFeatures) → AreAutomatic (header_members f)
-header_automatic f = automatic-append _ _ (automatic-append _ _ (number_automatic (codes "magic") f.magic) (uuid_automatic f.uuid)) (number_automatic (codes "stream_id") f.stream_id)
-
-pub event_header_automatic : (f : EventFeatures) → AreAutomatic (event_header_members f)
-event_header_automatic f = automatic-append _ _ (number_automatic (codes "id") f.id) (number_automatic (codes "timestamp") f.timestamp)
-
-pub context_automatic : (f : ContextFeatures) → AreAutomatic (context_numbers f)
-context_automatic f =
-    let a = number_member (codes "packet_size") (Some f.packet_size) in
-    let b = number_member (codes "content_size") (Some f.content_size) in
-    let c = number_member (codes "timestamp_begin") f.timestamp_begin in
-    let d = number_member (codes "timestamp_end") f.timestamp_end in
-    let e = number_member (codes "events_discarded") f.events_discarded in
-    let g = number_member (codes "packet_seq_num") f.packet_seq_num in
-    automatic-append (a ++ b ++ c ++ d ++ e) g (automatic-append (a ++ b ++ c ++ d) e (automatic-append (a ++ b ++ c) d (automatic-append (a ++ b) c (tt, (tt, tt))
-    (number_automatic (codes "timestamp_begin") f.timestamp_begin)) (number_automatic (codes "timestamp_end") f.timestamp_end)) (number_automatic (codes "events_discarded") f.events_discarded))
-    (number_automatic (codes "packet_seq_num") f.packet_seq_num)
+uuid_automatic None = refl
+uuid_automatic (Some t) = refl
 
 -- members of features are shown as they are
 three_shown : (a b c : Option IntType) → number_member (codes "magic") a ++ uuid_member b ++ number_member (codes "stream_id") c ≡ shown_members 0 (number_member (codes "magic") a ++ uuid_member b ++ number_member (codes "stream_id") c)
@@ -55,17 +28,45 @@ three_shown (Some a) None None = refl
 three_shown _ _ None = refl
 three_shown _ _ _ = refl
 
-pub header_shown : (f : HeaderFeatures) → header_members f ≡ shown_members 0 (header_members f)
-header_shown f = three_shown f.magic f.uuid f.stream_id
-
 two_shown : (a b : Option IntType) → number_member (codes "id") a ++ number_member (codes "timestamp") b ≡ shown_members 0 (number_member (codes "id") a ++ number_member (codes "timestamp") b)
 unfolding shown_members
 two_shown None None = refl
 two_shown (Some a) None = refl
 two_shown _ _ = refl
 
-pub event_header_shown : (f : EventFeatures) → event_header_members f ≡ shown_members 0 (event_header_members f)
-event_header_shown f = two_shown f.id f.timestamp
+struct_with-align : (ms : Members) → (ms ≡ [] → ⊥) → (struct_with ms).min_align ≡ 8
+struct_with-align [] h = absurd (h refl)
+struct_with-align (m ∷ ms) h = refl
+
+pub header_shows : (clocks : List (List ℕ)) (c : Config) → IsStruct clocks (header_of c) → Shows clocks (header_members c.header) 8 (header_of c)
+unfolding header_of
+header_shows clocks c h = record {
+  same = struct_with-members (header_members c.header) ∙ three_shown c.header.magic c.header.uuid c.header.stream_id;
+  aligned = struct_with-align (header_members c.header);
+  automatic = simp (list_all-append, number_automatic, uuid_automatic);
+  allowed = h;
+}
+
+pub event_header_shows : (clocks : List (List ℕ)) (s : StreamType) → IsStruct clocks (event_header_of s) → Shows clocks (event_header_members s.event_header) 8 (event_header_of s)
+unfolding event_header_of
+event_header_shows clocks s h = record {
+  same = struct_with-members (event_header_members s.event_header) ∙ two_shown s.event_header.id s.event_header.timestamp;
+  aligned = struct_with-align (event_header_members s.event_header);
+  automatic = simp (list_all-append, number_automatic);
+  allowed = h;
+}
+
+pub context_shows : (clocks : List (List ℕ)) (s : StreamType) → IsStreamType clocks s → IsStruct clocks (context_of s) → Shows clocks (context_numbers s.context ++ s.extras.members) 8 (context_of s)
+unfolding context_of
+context_shows clocks s t h = let ms = context_numbers s.context ++ s.extras.members in record {
+  same = struct_with-members (shown_members 0 ms);
+  aligned = λ some. struct_with-align (shown_members 0 ms) (λ e. some (no_members_shown 0 ms e));
+  automatic = simp (list_all-append, number_automatic, all_automatic s.extras.members t.extras.types);
+  allowed = h;
+}
+
+pub config_shows : (clocks : List (List ℕ)) (s : StructType) → IsConfigStruct s → Shows clocks s.members s.min_align (shown_struct s)
+config_shows clocks s h = record { same = refl; aligned = λ e. refl; automatic = all_automatic s.members h.members.types; allowed = struct_is_allowed clocks s h }
 
 unsigned_tested : (t : MemberType) → IsUnsigned t → is_unsigned t ≡ true
 unsigned_tested (Plain (Int t)) h = rw h refl

@@ -1,12 +1,12 @@
 -- The blocks of an allowed configuration mean its metadata.
-use Rattle.tsdl_writer.proofs.TreeWords.{AllByRecursion, Block, ClockType, Config, Denotes, EnvironmentEntry, IsConfig, IsHeld, IsHeldClock, IsHeldValue, IsMetadata, IsString, IsStruct, Item, List, Some, StreamType, [], all_event_blocks, ap, append-nil, at_most_one, blocks_of, clock_block, clock_in, clock_meaning, each, environment_blocks, environment_in, event_block, event_blocks, event_in, flat_map, flat_map-append, header_members, header_of, known_of, map, metadata_is_allowed, metadata_of, named_fact_tree, numbered, recursion_from_All, refl, stream_block, stream_blocks, stream_in, streams_meaning, streams_of, struct_with, struct_with-members, structure_of, text_meta, text_toks, trace_block, trace_in, trace_items, written, ℕ, ◌++◌, ◌+◌, ◌∙◌, ◌∷◌, ◌≡◌}
+use Rattle.tsdl_writer.proofs.TreeWords.{AllByRecursion, Block, ClockType, Config, Denotes, EnvironmentEntry, IsConfig, IsHeld, IsHeldClock, IsHeldValue, IsMetadata, IsString, IsStruct, Item, List, Some, StreamType, [], all_event_blocks, ap, append-nil, arith, at_most_one, blocks_of, clock_block, clock_in, clock_meaning, each, environment_blocks, environment_in, event_block, event_blocks, event_in, flat_map, flat_map-append, header_members, header_of, known_of, map, metadata_is_allowed, metadata_of, named_fact_tree, numbered, recursion_from_All, refl, stream_block, stream_blocks, stream_in, streams_meaning, streams_of, struct_with, struct_with-members, structure_of, text_meta, text_toks, trace_block, trace_in, trace_items, written, ℕ, ◌++◌, ◌+◌, ◌∙◌, ◌∷◌, ◌≡◌}
 use Rattle.tsdl_grammar.specs.declared.tree.NamedFact.{NamedFact}
 use Rattle.tsdl_grammar.specs.declared.tree.Block.TheVariants as blocks
-use Rattle.tsdl_writer.proofs.StructureMeanings.{found, structure_read}
-use Rattle.tsdl_writer.proofs.StructuresRead.{header_automatic, header_shown, header_suits}
+use Rattle.tsdl_writer.proofs.StructureMeanings.{structure_read}
+use Rattle.tsdl_writer.proofs.StructuresRead.{header_shows, header_suits}
 use Rattle.tsdl_writer.proofs.BlockMeanings.{trace_found, trace_uuid_is, header_is, clock_is, environment_is, no_two-distinct}
-use Rattle.tsdl_writer.proofs.NumberedBlocks.{none_taken, bares_by_number, have_all_streams, each_has_its_events}
-use Rattle.tsdl_writer.proofs.StreamMeanings.{struct_with-align, streams_read, all_events_read}
+use Rattle.tsdl_writer.proofs.NumberedBlocks.{none_taken, bares_by_number, all_tagged, all_have, each_with}
+use Rattle.tsdl_writer.proofs.StreamMeanings.{streams_read, all_events_read}
 use Rattle.tsdl_writer.proofs.LaidStands.{text_reads}
 use Rattle.tsdl_writer.proofs.BlocksWritable.{blocks_writable}
 
@@ -17,13 +17,6 @@ numbered_none f g n (x ∷ xs) h = flat_map-append f (g n x) (numbered g (n + 1)
 no_streams : {C : Type 0} (f : Block → List C) (ss : List StreamType) → ((k : ℕ) (s : StreamType) → f (stream_block k s) ++ [] ≡ []) → flat_map f (stream_blocks 0 ss) ≡ []
 no_streams f ss h = numbered_none f (λ id s. stream_block id s ∷ []) 0 ss h
 
-taken : {C : Type 0} (f : Block → List C) (c : Config) → flat_map f (blocks_of c) ≡ f (trace_block c) ++ (flat_map f (environment_blocks c.environment) ++ flat_map f (map clock_block c.clocks)
-    ++ flat_map f (stream_blocks 0 c.streams) ++ flat_map f (all_event_blocks 0 c.streams))
-taken {C} f c =
-    let env = environment_blocks c.environment in let clocks = map clock_block c.clocks in let streams = stream_blocks 0 c.streams in let events = all_event_blocks 0 c.streams in
-    ap (λ (w : List C). f (trace_block c) ++ w) (flat_map-append f (env ++ clocks ++ streams) events ∙ ap (λ (w : List C). w ++ flat_map f events) (flat_map-append f (env ++ clocks) streams
-    ∙ ap (λ (w : List C). w ++ flat_map f streams) (flat_map-append f env clocks)))
-
 no_environment : {C : Type 0} (f : Block → List C) (es : List EnvironmentEntry) → ((fs : List NamedFact) → f (blocks.Environment fs) ++ [] ≡ []) → flat_map f (environment_blocks es) ≡ []
 no_environment f [] h = refl
 no_environment f (e ∷ es) h = h (map named_fact_tree (e ∷ es))
@@ -31,28 +24,29 @@ no_environment f (e ∷ es) h = h (map named_fact_tree (e ∷ es))
 no_events : {C : Type 0} (f : Block → List C) (ss : List StreamType) → ((is : List Item) → f (blocks.Event is) ++ [] ≡ []) → flat_map f (all_event_blocks 0 ss) ≡ []
 no_events f ss h = numbered_none f (λ stream s. event_blocks stream 0 s.events) 0 ss (λ k s. numbered_none f (λ id e. event_block k id e ∷ []) 0 s.events (λ id e. h _))
 
+four : {C : Type 0} (f : Block → List C) (xs ys zs ws : List Block) → flat_map f (xs ++ ys ++ zs ++ ws) ≡ flat_map f xs ++ flat_map f ys ++ flat_map f zs ++ flat_map f ws
+four f xs ys zs ws = simp flat_map-append
+
+taken : {C : Type 0} (f : Block → List C) (c : Config) → flat_map f (blocks_of c) ≡ f (trace_block c) ++ flat_map f (environment_blocks c.environment) ++ flat_map f (map clock_block c.clocks)
+    ++ flat_map f (stream_blocks 0 c.streams) ++ flat_map f (all_event_blocks 0 c.streams)
+taken f c = four f (trace_block c ∷ environment_blocks c.environment) (map clock_block c.clocks) (stream_blocks 0 c.streams) (all_event_blocks 0 c.streams)
+
 trace_alone : (c : Config) → flat_map trace_in (blocks_of c) ≡ trace_items c.uuid c.order (header_members c.header) ∷ []
 trace_alone c =
-    taken trace_in c ∙ rw (no_environment trace_in c.environment (λ fs. refl), none_taken trace_in clock_block c.clocks (λ k. refl), no_streams trace_in c.streams (λ k s. refl), no_events trace_in c.streams (λ is. refl)) refl
+    taken trace_in c ∙ simp (no_environment trace_in c.environment (λ fs. refl), none_taken trace_in clock_block c.clocks (λ k. refl), no_streams trace_in c.streams (λ k s. refl), no_events trace_in c.streams (λ is. refl))
 
 clocks_alone : (c : Config) → flat_map clock_in (blocks_of c) ≡ flat_map clock_in (map clock_block c.clocks)
-clocks_alone c =
-    taken clock_in c ∙ rw (no_environment clock_in c.environment (λ fs. refl), no_streams clock_in c.streams (λ k s. refl), no_events clock_in c.streams (λ is. refl))
-    (append-nil (flat_map clock_in (map clock_block c.clocks) ++ []) ∙ append-nil (flat_map clock_in (map clock_block c.clocks)))
+clocks_alone c = taken clock_in c ∙ simp (no_environment clock_in c.environment (λ fs. refl), no_streams clock_in c.streams (λ k s. refl), no_events clock_in c.streams (λ is. refl), append-nil)
 
 environment_alone : (c : Config) → flat_map environment_in (blocks_of c) ≡ flat_map environment_in (environment_blocks c.environment)
 environment_alone c =
-    taken environment_in c ∙ rw (none_taken environment_in clock_block c.clocks (λ k. refl), no_streams environment_in c.streams (λ k s. refl), no_events environment_in c.streams (λ is. refl))
-    (append-nil (flat_map environment_in (environment_blocks c.environment) ++ [] ++ []) ∙ append-nil (flat_map environment_in (environment_blocks c.environment) ++ []) ∙ append-nil (flat_map environment_in (environment_blocks c.environment)))
+    taken environment_in c ∙ simp (none_taken environment_in clock_block c.clocks (λ k. refl), no_streams environment_in c.streams (λ k s. refl), no_events environment_in c.streams (λ is. refl), append-nil)
 
 streams_alone : (c : Config) → flat_map stream_in (blocks_of c) ≡ flat_map stream_in (stream_blocks 0 c.streams)
-streams_alone c =
-    taken stream_in c ∙ rw (no_environment stream_in c.environment (λ fs. refl), none_taken stream_in clock_block c.clocks (λ k. refl), no_events stream_in c.streams (λ is. refl))
-    (append-nil (flat_map stream_in (stream_blocks 0 c.streams)))
+streams_alone c = taken stream_in c ∙ simp (no_environment stream_in c.environment (λ fs. refl), none_taken stream_in clock_block c.clocks (λ k. refl), no_events stream_in c.streams (λ is. refl), append-nil)
 
 events_alone : (c : Config) → flat_map event_in (blocks_of c) ≡ flat_map event_in (all_event_blocks 0 c.streams)
-events_alone c =
-    taken event_in c ∙ rw (no_environment event_in c.environment (λ fs. refl), none_taken event_in clock_block c.clocks (λ k. refl), no_streams event_in c.streams (λ k s. refl)) refl
+events_alone c = taken event_in c ∙ simp (no_environment event_in c.environment (λ fs. refl), none_taken event_in clock_block c.clocks (λ k. refl), no_streams event_in c.streams (λ k s. refl))
 
 clocks_read : (cs : List ClockType) → AllByRecursion IsHeldClock cs → each clock_meaning (flat_map clock_in (map clock_block cs)) ≡ Some cs
 clocks_read [] h = refl
@@ -62,25 +56,21 @@ facts_read : (es : List EnvironmentEntry) → at_most_one (flat_map environment_
 facts_read [] = refl
 facts_read (e ∷ es) = refl
 
-header_read : (c : Config) → IsStruct (map (λ k. k.name) c.clocks) (header_of c) → structure_of (known_of c.order c.clocks) (found (header_members c.header) 8) ≡ Some (header_of c)
-unfolding header_of
-header_read c h =
-    let ms = header_members c.header in
-    structure_read (known_of c.order c.clocks) ms 8 (struct_with ms) (struct_with-members ms ∙ header_shown c.header) (struct_with-align ms) (header_automatic c.header) h
-
 streams_meant : (c : Config) → IsConfig c → IsMetadata (metadata_of c) → streams_meaning (known_of c.order c.clocks) (blocks_of c) ≡ Some (streams_of 0 c.streams)
 unfolding streams_meaning metadata_of
 streams_meant c h m =
     let known = known_of c.order c.clocks in
-    rw (streams_alone c, streams_read known 0 c.streams (recursion_from_All _ _ h.streams) (recursion_from_All _ _ m.streams), bares_by_number 0 c.streams, events_alone c, all_events_read known 0 c.streams h.streams, have_all_streams c.streams)
-    (each_has_its_events c.streams)
+    let streams = streams_read known 0 c.streams (recursion_from_All _ _ h.streams) (recursion_from_All _ _ m.streams) in
+    rw (streams_alone c, streams, bares_by_number 0 c.streams, events_alone c, all_events_read known 0 c.streams h.streams, all_have c.streams 0 c.streams (omega arith))
+    (each_with (all_tagged 0 c.streams) 0 c.streams (λ k le. refl))
 
 -- the blocks mean the metadata
 pub text_meant : (c : Config) → IsConfig c → IsHeld c → text_meta (blocks_of c) ≡ Some (metadata_of c)
 unfolding text_meta metadata_of
 text_meant c h held =
     let m = metadata_is_allowed c h in let at = trace_found c.uuid c.order (header_members c.header) in
-    let header = header_is (known_of c.order c.clocks) c.uuid c.order (header_members c.header) (header_of c) (header_read c m.header) (header_suits (header_of c).members (recursion_from_All _ _ m.magic) (recursion_from_All _ _ m.uuid) (recursion_from_All _ _ m.stream_id)) in
+    let known = known_of c.order c.clocks in
+    let header = header_is known c.uuid c.order (header_members c.header) (header_of c) (structure_read known (header_members c.header) 8 (header_of c) (header_shows known.clocks c m.header)) (header_suits (header_of c).members (recursion_from_All _ _ m.magic) (recursion_from_All _ _ m.uuid) (recursion_from_All _ _ m.stream_id)) in
     let entries = recursion_from_All (λ (e : EnvironmentEntry). IsHeldValue e.value) c.environment held.environment in
     let clocks = recursion_from_All IsHeldClock c.clocks held.clocks in
     rw (

@@ -86,7 +86,7 @@ members_writable clocks n before [] names a h w = nothing
 members_writable clocks n before ((name, Plain t) ∷ ms) names a h w =
     let rest = names_in (shown_members (n + 1) ms) in
     both (ended marks.Semicolon (both (kind_writable clocks (chain_of t).leaf names h.0.0) (word name (All-head IsMetadataName name rest w) (counts_writable (chain_of t).lengths h.0.1.size))))
-    (members_writable clocks (n + 1) (before ++ (name, Plain t) ∷ []) ms names a.1 h.1 (All-tail IsMetadataName name rest w))
+    (members_writable clocks (n + 1) (before ++ (name, Plain t) ∷ []) ms names a h.1 (All-tail IsMetadataName name rest w))
 members_writable clocks n before ((name, Dyn t Auto) ∷ ms) names a h w =
     let rest = names_in (shown_members (n + 2) ms) in
     let length_named = All-head IsMetadataName (length_name name) (name ∷ rest) w in
@@ -94,5 +94,5 @@ members_writable clocks n before ((name, Dyn t Auto) ∷ ms) names a h w =
     both (ended marks.Semicolon (both (integer_writable length_type (λ k e. absurd cc)) (word (length_name name) length_named nothing)))
     (both (ended marks.Semicolon (both (kind_writable clocks (chain_of t).leaf names h.1.0.0.0)
     (word name (All-head IsMetadataName name rest w2) (mark marks.OpenBracket (word (length_name name) length_named (mark marks.CloseBracket (counts_writable (chain_of t).lengths h.1.0.0.1.size)))))))
-    (members_writable clocks (n + 2) (before ++ (length_name name, Plain (Int length_type)) ∷ [] ++ (name, Dyn t (At n)) ∷ []) ms names a.1 h.1.1 (All-tail IsMetadataName name rest w2)))
-members_writable clocks n before ((name, Dyn t (At i)) ∷ ms) names a h w = absurd a.0
+    (members_writable clocks (n + 2) (before ++ (length_name name, Plain (Int length_type)) ∷ [] ++ (name, Dyn t (At n)) ∷ []) ms names a h.1.1 (All-tail IsMetadataName name rest w2)))
+members_writable clocks n before ((name, Dyn t (At i)) ∷ ms) names a h w = absurd cc

@@ -1,4 +1,4 @@
-use Rattle.tsdl_writer.proofs.Printing.{codes, context_numbers, event_header_members, flat_map, item_toks, natural_item, refl, scope_items, two_words, ◌++◌, ◌∷◌, last, pair, block}
+use Rattle.tsdl_writer.proofs.Printing.{codes, context_numbers, event_header_members, flat_map, item_toks, natural_item, refl, scope_items, two_words, ◌++◌, ◌∷◌, last, block}
 use Rattle.tsdl_writer.proofs.blocks.stream.Goals as goal
 
 pub returns : goal.returns
@@ -7,6 +7,5 @@ returns c = last c.print-2.result c.print-2.ensures (λ one rest text e.
     let context = scope_items (two_words (codes "packet") (codes "context")) (context_numbers s.context ++ s.extras.members) 8 in
     let header = scope_items (two_words (codes "event") (codes "header")) (event_header_members s.event_header) 8 in
     let common = scope_items (two_words (codes "event") (codes "context")) s.common.members s.common.min_align in
-    block (codes "stream") (flat_map item_toks (id ∷ context ++ header ++ common)) rest
-    (c.in_ok-print.ensures _ text (pair item_toks (id ∷ context ++ header) common _ (pair item_toks (id ∷ context) header _
-    (c.in_ok-attribute.ensures _ text (c.in_ok-context.ensures _ text (c.in_ok-event_header.ensures _ text (c.in_ok-structure.ensures (two_words (codes "event") (codes "context")) refl _ text (one rest text e)))))))))
+    let behind = c.in_ok-event_header.ensures _ text (c.in_ok-structure.ensures (two_words (codes "event") (codes "context")) refl _ text (one rest text e)) in
+    block (codes "stream") (id ∷ context) header common rest (c.in_ok-print.ensures _ text (c.in_ok-attribute.ensures _ text (c.in_ok-context.ensures _ text behind))))

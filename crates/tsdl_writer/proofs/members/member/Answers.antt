@@ -1,30 +1,23 @@
 use Rattle.tsdl_grammar.specs.declared.atom.Atom.TheVariants as atoms
 use Rattle.tsdl_grammar.specs.declared.token.Mark.TheVariants as marks
-use Rattle.tsdl_grammar.specs.declared.tree.Attribute.{Attribute}
-use Rattle.tsdl_writer.proofs.Printing.{Auto, Dyn, List, Prints, [], array_member, bracket_toks, chain_of, count_bracket, flat_map, int_toks, integer_attributes, kind_toks, kind_tree, length_member, length_name, length_type, map, member_toks, member_tree, rules, subst, ◌++◌, ◌∷◌, ◌≡◌, last, regroup, nothing_behind, line, attributes_are}
+use Rattle.tsdl_writer.proofs.Printing.{Auto, Dyn, List, Prints, [], array_member, bracket_toks, chain_of, count_bracket, flat_map, int_toks, integer_attributes, kind_toks, kind_tree, length_member, length_name, length_type, map, member_toks, member_tree, rules, subst, ◌++◌, ◌∷◌, ◌≡◌, last, regroup, nothing_behind, line, groups}
 use Rattle.tsdl_writer.proofs.members.member.Goals as goal
 
 pub returns-in_ok-lengths-in-Plain : goal.returns-in_ok-lengths-in-Plain
 returns-in_ok-lengths-in-Plain c =
-    let name = c.args.name.now in let chain = chain_of c.in-Plain.field in
     rw c.in-Plain.is (last c.token-in-Plain.result c.token-in-Plain.ensures (λ one rest text e.
-    nothing_behind (member_toks (member_tree name chain [])) rest
-    (line (kind_toks (kind_tree chain.leaf)) (atoms.Word name ∷ flat_map bracket_toks (map count_bracket chain.lengths)) rest
-    (c.in_ok-kind-in-Plain.ensures _ text (c.in_ok-token-in-Plain.ensures _ text (c.in_ok-lengths-in-Plain.ensures _ text (one rest text e)))))))
+    simp groups (c.in_ok-kind-in-Plain.ensures _ text (c.in_ok-token-in-Plain.ensures _ text (c.in_ok-lengths-in-Plain.ensures _ text (one rest text e))))))
 
 -- the length's member, and then the array's
 pub returns-in_ok-lengths-in-Dyn-default-Auto : goal.returns-in_ok-lengths-in-Dyn-default-Auto
 returns-in_ok-lengths-in-Dyn-default-Auto c =
     let same : c.args.member.now ≡ Dyn c.in-Dyn-default-Auto.element Auto = search rules in
-    let name = c.args.name.now in let chain = chain_of c.in-Dyn-default-Auto.element in
-    let t = c.in-Some.length in
-    let length_printed = subst (λ (attrs : List Attribute). Prints c.args.out.now c.integer.new.out (int_toks attrs))
-    (attributes_are length_type t.size t.align t.signed t.base t.clock c.in-Some.ensures.size c.in-Some.ensures.align c.in-Some.ensures.signed c.in-Some.ensures.base c.in-Some.ensures.no_clock) c.in_ok-integer-in-Dyn-default-Auto.ensures in
+    let name = c.args.name.now in let chain = chain_of c.in-Dyn-default-Auto.element in let is = c.in-Some.ensures in
     let length = length_name name in let array = member_toks (array_member name chain) in let lengths = flat_map bracket_toks (map count_bracket chain.lengths) in
     rw same (last c.token-in-Dyn-default-Auto-2.result c.token-in-Dyn-default-Auto-2.ensures (λ one rest text e.
-    regroup (member_toks (length_member name)) (array ++ []) rest
-    (line (int_toks (integer_attributes length_type)) (atoms.Word length ∷ []) (array ++ [] ++ rest)
-    (length_printed _ text (c.in_ok-print-in-Dyn-default-Auto.ensures _ text (nothing_behind array rest
-    (line (kind_toks (kind_tree chain.leaf)) (atoms.Word name ∷ atoms.Mark marks.OpenBracket ∷ atoms.Word length ∷ atoms.Mark marks.CloseBracket ∷ lengths) rest
+    let second = line (kind_toks (kind_tree chain.leaf)) (atoms.Word name ∷ atoms.Mark marks.OpenBracket ∷ atoms.Word length ∷ atoms.Mark marks.CloseBracket ∷ lengths) rest
     (c.in_ok-kind-in-Dyn-default-Auto.ensures _ text (c.in_ok-print-in-Dyn-default-Auto-2.ensures _ text (c.in_ok-token-in-Dyn-default-Auto.ensures _ text
-    (c.in_ok-lengths-in-Dyn-default-Auto.ensures _ text (one rest text e))))))))))))
+    (c.in_ok-lengths-in-Dyn-default-Auto.ensures _ text (one rest text e))))) in
+    let first = c.in_ok-integer-in-Dyn-default-Auto.ensures _ text (c.in_ok-print-in-Dyn-default-Auto.ensures _ text (nothing_behind array rest second)) in
+    regroup (member_toks (length_member name)) (array ++ []) rest
+    (line (int_toks (integer_attributes length_type)) (atoms.Word length ∷ []) (array ++ [] ++ rest) (rw (is.size, is.align, is.signed, is.base, is.no_clock) at first))))

@@ -1,4 +1,4 @@
-use Rattle.tsdl_writer.proofs.Printing.{refl, codes, false, header_members, is_none, member_toks_of, number_member, rules, two_words, uuid_member, ◌++◌, ◌≡◌, last, pair, scoped, none_in, number_stands, uuid_stands}
+use Rattle.tsdl_writer.proofs.Printing.{refl, codes, false, header_members, is_none, member_toks_of, number_member, rules, two_words, uuid_member, ◌++◌, ◌≡◌, last, scoped, none_in, number_stands, uuid_stands, groups}
 use Rattle.tsdl_writer.proofs.scopes.header.Goals as goal
 use Rattle.tsdl_writer.proofs.scopes.header.Goals.{else-is_none-via-then-is_none+then-is_none-2+else-is_none-3, else-is_none-via-then-is_none+else-is_none-2, else-is_none-via-else-is_none}
 
@@ -13,5 +13,5 @@ returns c = last c.close.result c.close.ensures (λ one rest text e.
       | else-is_none-via-then-is_none+else-is_none-2 w ↦ let on : is_none f.uuid ≡ false = search rules in uuid_stands f.uuid on (none_in magic uuid front.0).1
       | else-is_none-via-else-is_none w ↦ let on : is_none f.magic ≡ false = search rules in number_stands (codes "magic") f.magic on (none_in magic uuid front.0).0
     ])
-    (c.in_ok-print.ensures _ text (c.in_ok-print-2.ensures _ text (pair member_toks_of (magic ++ uuid) stream _ (pair member_toks_of magic uuid _
-    (c.in_ok-feature.ensures _ text (c.in_ok-identifier.ensures _ text (c.in_ok-feature-2.ensures _ text (one rest text e)))))))))
+    (c.in_ok-print.ensures _ text (c.in_ok-print-2.ensures _ text (simp groups
+    (c.in_ok-feature.ensures _ text (c.in_ok-identifier.ensures _ text (c.in_ok-feature-2.ensures _ text (one rest text e))))))))

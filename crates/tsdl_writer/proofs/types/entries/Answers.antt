@@ -1,4 +1,4 @@
-use Rattle.tsdl_writer.proofs.Printing.{Ends, List, Mapping, ap, arith, drop, drop_all, entries_toks, entry_toks, entry_tree, entry_trees, flat_map, length, map, next_entry_toks, subst, sym, take, take_rest, ◌++◌, ◌+◌, ◌-◌, ◌<◌, ◌∙◌, ◌∷◌, ◌≡◌, begun, regroup, one_more, all_printed, item, nothing_behind}
+use Rattle.tsdl_writer.proofs.Printing.{Ends, List, Mapping, ap, arith, drop, drop_all, entries_toks, entry_toks, entry_tree, entry_trees, flat_map, length, map, next_entry_toks, subst, sym, take, take_rest, ◌++◌, ◌+◌, ◌-◌, ◌<◌, ◌∙◌, ◌∷◌, ◌≡◌, begun, one_more, all_printed, item, groups}
 use Rattle.tsdl_writer.proofs.types.entries.Goals as goal
 
 pub loop-mapping-init : goal.loop-mapping-init
@@ -17,7 +17,5 @@ returns c rest text e =
     let some : 0 < length ms = omega (arith, c.in-len1-up.len_at_least) in
     let xs = take (length ms - 1) (drop 1 ms) in
     let split : ms ≡ x ∷ xs = item ms 0 x some c.first-item.is ∙ ap (λ (w : List Mapping). x ∷ w) (sym (take_rest ms 1)) in
-    let first = entry_toks (entry_tree x) in let others = flat_map next_entry_toks (map entry_tree xs) in
     let all = all_printed c.loop-mapping.invariant (ap (λ (w : List Mapping). flat_map next_entry_toks (map entry_tree w)) (drop_all c.loop-mapping.mapping-index xs c.loop-mapping-test.false)) in
-    subst (λ (w : List Mapping). Ends c.args.out.now (entries_toks (entry_trees w) ++ rest) text) (sym split)
-    (nothing_behind (first ++ others) rest (regroup first others rest (c.in_ok-entry.ensures _ text (all rest text e))))
+    subst (λ (w : List Mapping). Ends c.args.out.now (entries_toks (entry_trees w) ++ rest) text) (sym split) (simp groups (simp groups at (c.in_ok-entry.ensures _ text (all rest text e))))

@@ -1,14 +1,10 @@
-use Rattle.tsdl_grammar.specs.declared.atom.Atom.TheVariants as atoms
-use Rattle.tsdl_grammar.specs.declared.token.Mark.TheVariants as marks
-use Rattle.tsdl_writer.proofs.Printing.{[], ◌∷◌, last, regroup}
+use Rattle.tsdl_writer.proofs.Printing.{last, groups}
 use Rattle.tsdl_writer.proofs.types.integer.Goals as goal
 
 pub returns : goal.returns
 returns c = last c.token.result c.token.ensures (λ one rest text e.
-    let clock = rw c.clock.ensures at (c.in_ok-mapping.ensures _ text (one rest text e)) in
-    let map = regroup _ (atoms.Mark marks.CloseBrace ∷ []) rest clock in
+    let map = rw c.clock.ensures at (c.in_ok-mapping.ensures _ text (one rest text e)) in
     let base = rw (c.base_number.ensures, c.base.ensures) at (c.in_ok-attribute-4.ensures _ text map) in
     let sign = rw (c.flag_word.ensures, c.is_signed.ensures) at (c.in_ok-attribute-3.ensures _ text base) in
     let align = rw (c.from-2.ensures, c.align.ensures.is) at (c.in_ok-attribute-2.ensures _ text sign) in
-    let size = rw (c.from.ensures, c.size.ensures.is) at (c.in_ok-attribute.ensures _ text align) in
-    c.in_ok-print.ensures _ text size)
+    simp groups (c.in_ok-print.ensures _ text (rw (c.from.ensures, c.size.ensures.is) at (c.in_ok-attribute.ensures _ text align))))
