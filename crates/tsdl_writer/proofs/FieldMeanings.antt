@@ -1,5 +1,6 @@
 -- What the trees of field types mean: the integer, the enumeration, the string or the array that they were made of.
-use Rattle.tsdl_writer.proofs.TreeWords.{All, All-head, All-tail, At, Contains, Dyn, list_all,  IsLeaf, IsMappedTo, bytes_eq-Decides, false≢true, suc, zero, sym, ◌<◌, Base, Bin, Bool, ByteString, FieldType, Int, IntType, IsNest, IsRange, Known, Labelled, Leaf, List, Mapping, MemberType, None, Number, Option, Plain, Some, [], ap, are_lengths, arith, arrays_of, attributes, base_value, bracketed, bytes_eq, cases_Bool, chain_of, clock_value, count_bracket, count_of, each, entries_of, entry_meaning, entry_tree, entry_trees, enum_meaning, false, flag_value, high_number, high_of, inl, inr, int_le, int_meaning, int_type, int_type-own, integer_attributes, ints, kind_meaning, kind_tree, le-leb, length, length-map, list_any, map, nat_le, negsuc, pos, refl, signed_of, text_meaning, true, whole_number, ℕ, ℤ, ◌^◌, ◌∙◌, ◌∷◌, ◌≡◌, ◌≤ℤ◌, ◌≤◌}
+use Rattle.tsdl_writer.proofs.TreeWords.{get_or, All, All-head, All-tail, At, Contains, Dyn, list_all,  IsLeaf, IsMappedTo, bytes_eq-Decides, false≢true, suc, zero, sym, ◌<◌, Base, Bin, Bool, ByteString, FieldType, Int, IntType, IsNest, IsRange, Known, Labelled, Leaf, List, Mapping, MemberType, None, Number, Option, Plain, Some, [], ap, are_lengths, arith, arrays_of, attributes, base_value, bracketed, bytes_eq, cases_Bool, chain_of, clock_value, count_bracket, count_of, each, entries_of, entry_meaning, entry_tree, entry_trees, enum_meaning, false, flag_value, high_number, high_of, inl, inr, int_le, int_meaning, int_type, int_type-own, integer_attributes, ints, kind_meaning, kind_tree, le-leb, length, length-map, list_any, map, nat_le, negsuc, pos, refl, signed_of, text_meaning, true, whole_number, ℕ, ℤ, ◌^◌, ◌∙◌, ◌∷◌, ◌≡◌, ◌≤ℤ◌, ◌≤◌}
+use Rattle.std.proofs.lemmas.List.Folds.{list_any_at}
 use Rattle.ctf_types.specs.declared.EnumType.{EnumType}
 use Rattle.ctf_types.specs.Allowed as allowed
 use Rattle.tsdl_grammar.specs.MemberMeaning.{elements_of}
@@ -19,18 +20,8 @@ parts_meant known size align true Bin (Some name) h = rw h refl
 parts_meant known size align false Bin (Some name) h = rw h refl
 parts_meant known size align _ _ (Some name) h = rw h refl
 
--- what a list contains is its first item or stands behind it
-later : (k : List ℕ) (ks : List (List ℕ)) (name : List ℕ) → bytes_eq name k ≡ false → Contains (k ∷ ks) name → Contains ks name
-later k ks name e (zero, below, same) = absurd (false≢true (sym e ∙ (bytes_eq-Decides name k).1 (sym same)))
-later k ks name e (suc i, below, same) = (i, (let l : i < length ks = omega arith in l), same)
-
 clock_there : (clocks : List (List ℕ)) (name : List ℕ) → Contains clocks name → list_any (bytes_eq name) clocks ≡ true
-clock_there [] name h = absurd (omega (arith, h.1))
-clock_there (k ∷ clocks) name h =
-    elim (cases_Bool (bytes_eq name k)) [
-      | inl e ↦ rw e refl
-      | inr e ↦ rw e (clock_there clocks name (later k clocks name e h))
-    ]
+clock_there clocks name (k, below, same) = list_any_at (bytes_eq name) clocks k name below ((bytes_eq-Decides name (get_or clocks k name)).1 (sym same))
 
 known_clock : (clocks : List (List ℕ)) (o : Option (List ℕ)) → ((name : List ℕ) → o ≡ Some name → Contains clocks name) → IsKnown clocks o
 known_clock clocks None h = tt
@@ -52,13 +43,14 @@ one_number low high h e = grind (arith, ints)
 high_meant : (low high : ℤ) → low ≤ℤ high → high_of low (high_number low high) ≡ high
 high_meant low high h = elim (cases_Bool (int_le high low)) [ inl e ↦ rw e (one_number low high h e) | inr e ↦ rw e (signed_of-whole high) ]
 
-entry_meant : (m : Mapping) → m.low ≤ℤ m.high → entry_meaning (entry_tree m) ≡ Some m
+entry_meant : (m : Mapping) → IsRange m → entry_meaning (entry_tree m) ≡ Some m
 unfolding entry_meaning
-entry_meant m h = rw (signed_of-whole m.low, high_meant m.low m.high h, le_tested m.low m.high h) refl
+entry_meant m h = rw (signed_of-whole m.low, high_meant m.low m.high h.ordered, le_tested m.low m.high h.ordered) refl
 
-each_entry_meant : (ms : List Mapping) → All IsRange ms → each entry_meaning (map entry_tree ms) ≡ Some ms
-each_entry_meant [] h = refl
-each_entry_meant (m ∷ ms) h = rw (entry_meant m (All-head IsRange m ms h).ordered, each_entry_meant ms (All-tail IsRange m ms h)) refl
+-- each tree means what it was made of
+pub each_own : {A B : Type 0} (P : A → Type 0) (meaning : B → Option A) (tree : A → B) → ((x : A) → P x → meaning (tree x) ≡ Some x) → (xs : List A) → All P xs → each meaning (map tree xs) ≡ Some xs
+each_own P meaning tree own [] h = refl
+each_own P meaning tree own (x ∷ xs) h = rw (own x (All-head P x xs h), each_own P meaning tree own xs (All-tail P x xs h)) refl
 
 entries_of-trees : (ms : List Mapping) → entries_of (entry_trees ms) ≡ map entry_tree ms
 entries_of-trees [] = refl
@@ -68,7 +60,7 @@ enum_meant : (t : EnumType) → All IsRange t.mappings → length t.mappings ≤
 unfolding enum_meaning
 enum_meant t h few =
     let short : nat_le (length (map entry_tree t.mappings)) 65536 ≡ true = le-leb (length (map entry_tree t.mappings)) 65536 (rw (length-map t.mappings entry_tree) few) in
-    rw (entries_of-trees t.mappings, short, each_entry_meant t.mappings h) refl
+    rw (entries_of-trees t.mappings, short, each_own IsRange entry_meaning entry_tree entry_meant t.mappings h) refl
 
 pub kind_meant : (known : Known) (leaf : Leaf) → IsLeaf known.clocks leaf → kind_meaning known (kind_tree leaf) ≡ Some leaf
 unfolding kind_meaning text_meaning

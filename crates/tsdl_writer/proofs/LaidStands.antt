@@ -1,26 +1,21 @@
 -- What is laid out spells its tokens again, whatever they are, where each of them can be written.
 use Rattle.tsdl_writer.proofs.TreeWords.{AllByRecursion, Atom, Block, IsString, List, Mark, [], ap, arith, codes, eqb, false, get_or, is_digit, is_identifier, is_letter, is_read, list_all, nat_tests, not, prefix_len, refl, text_toks, true, ℕ, ◌++◌, ◌||◌, ◌∙◌, ◌∷◌, ◌≡◌}
+use Rattle.tsdl_writer.proofs.Writable.{IsWritable}
 use Rattle.tsdl_grammar.specs.declared.token.Mark.TheVariants as marks
 use Rattle.tsdl_grammar.specs.declared.atom.Atom.TheVariants as atoms
-use Rattle.tsdl_grammar.specs.Bytes.{is_blank, is_name_start, is_name_byte}
-use Rattle.tsdl_grammar.specs.Tokens.{HasMagicLine, mark_text}
-use Rattle.tsdl_grammar.specs.Atoms.{Spells, Reads}
-use Rattle.tsdl_grammar.proofs.Runs.{and_true}
+use Rattle.tsdl_grammar.specs.{Bytes.{is_blank, is_name_start, is_name_byte}, Tokens.{HasMagicLine, mark_text}, Atoms.{Spells, Reads}}
+use Rattle.tsdl_grammar.proofs.{Runs.and_true, WordStands.IsName}
 use Rattle.tsdl_grammar.proofs.Continuation as continuation
 use Rattle.tsdl_grammar.proofs.WordStands as words
-use Rattle.tsdl_grammar.proofs.WordStands.{IsName}
 use Rattle.tsdl_grammar.proofs.NumberStands as numbers
 use Rattle.tsdl_grammar.proofs.TextStands as texts
 use Rattle.tsdl_grammar.proofs.MarkStands as mark_steps
 use Rattle.tsdl_grammar.proofs.ListStands as lists
-use Rattle.tsdl_writer.specs.declared.layout.Depth.{Depth}
+use Rattle.tsdl_writer.specs.declared.{layout.Depth.Depth, layout.Place.Place, layout.Next.Next}
 use Rattle.tsdl_writer.specs.declared.layout.Depth.TheVariants as depths
-use Rattle.tsdl_writer.specs.declared.layout.Place.{Place}
 use Rattle.tsdl_writer.specs.declared.layout.Place.TheVariants as places
-use Rattle.tsdl_writer.specs.declared.layout.Next.{Next}
 use Rattle.tsdl_writer.specs.declared.layout.Next.TheVariants as nexts
 use Rattle.tsdl_writer.specs.Layout.{atom_text, behind, atom_behind, next_of, line, closing_line, gap, laid, text_of}
-use Rattle.tsdl_writer.proofs.Writable.{IsWritable}
 
 abbrev AreWritable : List Atom → Type 0
 AreWritable meant = AllByRecursion IsWritable meant

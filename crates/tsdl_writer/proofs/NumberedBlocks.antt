@@ -82,11 +82,7 @@ all_have all n (s ∷ ss) h =
 
 picked-append : (k : ℕ) (xs ys : List (ℕ × Event)) → denotes.events_of k (xs ++ ys) ≡ denotes.events_of k xs ++ denotes.events_of k ys
 picked-append k [] ys = refl
-picked-append k (x ∷ xs) ys =
-    elim (cases_Bool (eqb x.0 k)) [
-      | inl e ↦ rw e (ap (λ (w : List Event). x.1 ∷ w) (picked-append k xs ys))
-      | inr e ↦ rw e (picked-append k xs ys)
-    ]
+picked-append k (x ∷ xs) ys = elim (cases_Bool (eqb x.0 k)) [ inl e ↦ rw e (ap (λ (w : List Event). x.1 ∷ w) (picked-append k xs ys)) | inr e ↦ rw e (picked-append k xs ys) ]
 
 picked_own : (k : ℕ) (es : List Event) → denotes.events_of k (tagged k es) ≡ es
 picked_own k [] = refl

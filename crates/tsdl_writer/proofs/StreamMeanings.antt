@@ -1,11 +1,8 @@
 -- What the stream and event blocks of a configuration mean: its streams by number, each with its events.
-use Rattle.tsdl_writer.proofs.TreeWords.{AllByRecursion, recursion_from_All, All, All-head, All-tail, All-weaker, EventType, IsConfigStruct, IsEventType, IsStream, IsStreamType, IsStruct, IsUnsigned, Known, List, MemberType, Some, StreamType, StructType, [], all_event_blocks, ap, bytes_eq, cases_Bool, codes, context_names, context_numbers, context_of, each, event_blocks, event_header_members, event_header_of, event_in, event_items, event_meaning, event_of, false≢true, flat_map, flat_map-append, has_member, inl, inr, list_any, no_members_shown, refl, shown_members, shown_struct, stream_blocks, stream_in, stream_items, stream_meaning, stream_of, streams_of, struct_is_allowed, struct_with, struct_with-members, structure_of, subst, sym, true, ℕ, ◌++◌, ◌+◌, ◌∙◌, ◌∷◌, ◌≡◌}
+use Rattle.tsdl_writer.proofs.TreeWords.{get_or, AllByRecursion, recursion_from_All, All, All-head, All-tail, All-weaker, EventType, IsConfigStruct, IsEventType, IsStream, IsStreamType, IsStruct, IsUnsigned, Known, List, MemberType, Some, StreamType, StructType, [], all_event_blocks, ap, bytes_eq, cases_Bool, codes, context_names, context_numbers, context_of, each, event_blocks, event_header_members, event_header_of, event_in, event_items, event_meaning, event_of, false≢true, flat_map, flat_map-append, has_member, inl, inr, list_any, no_members_shown, refl, shown_members, shown_struct, stream_blocks, stream_in, stream_items, stream_meaning, stream_of, streams_of, struct_is_allowed, struct_with, struct_with-members, structure_of, subst, sym, true, ℕ, ◌++◌, ◌+◌, ◌∙◌, ◌∷◌, ◌≡◌}
+use Rattle.tsdl_writer.proofs.{FieldMeanings.Members, StructureMeanings.structure_read, StructuresRead.{context_shows, event_header_shows, config_shows, all_suit}}
+use Rattle.tsdl_writer.proofs.{BlockMeanings.{stream_is, event_is}, NumberedBlocks.{each-append, bare, bares, tagged, all_tagged}}
 use Rattle.ctf_types.specs.MetadataOf as meta
-use Rattle.tsdl_writer.proofs.FieldMeanings.{Members}
-use Rattle.tsdl_writer.proofs.StructureMeanings.{structure_read}
-use Rattle.tsdl_writer.proofs.StructuresRead.{context_shows, event_header_shows, config_shows, all_suit}
-use Rattle.tsdl_writer.proofs.BlockMeanings.{StreamIsRead, stream_is, event_is}
-use Rattle.tsdl_writer.proofs.NumberedBlocks.{each-append, bare-id, bare, bares, tagged, all_tagged}
 
 one_id : (m : List ℕ × MemberType) → (bytes_eq m.0 (codes "id") ≡ true → IsUnsigned m.1) → list_any (bytes_eq m.0) (codes "id" ∷ []) ≡ true → IsUnsigned m.1
 one_id m h k = elim (cases_Bool (bytes_eq m.0 (codes "id"))) [ inl e ↦ h e | inr e ↦ absurd (false≢true (sym (rw e refl) ∙ k)) ]
@@ -14,26 +11,15 @@ has_sizes : (s : StreamType) → (has_member (codes "packet_size") (context_of s
 unfolding context_of shown_members
 has_sizes s = (refl, refl)
 
-stream_read : (known : Known) (n : ℕ) (s : StreamType) → IsStreamType known.clocks s → IsStream known.clocks (stream_of n s)
-    → StreamIsRead known (context_numbers s.context ++ s.extras.members) (event_header_members s.event_header) s.common.members s.common.min_align (bare n s)
-unfolding bare stream_of
-stream_read known n s t h = record {
-  context_read = structure_read known (context_numbers s.context ++ s.extras.members) 8 (context_of s) (context_shows known.clocks s t h.context);
-  header_read = structure_read known (event_header_members s.event_header) 8 (event_header_of s) (event_header_shows known.clocks s h.event_header);
-  common_read = structure_read known s.common.members s.common.min_align (shown_struct s.common) (config_shows known.clocks s.common t.common);
-  context_suits = all_suit context_names (context_of s).members (recursion_from_All _ _ h.own_are_unsigned);
-  header_suits = all_suit (codes "id" ∷ []) (event_header_of s).members (recursion_from_All _ _ (All-weaker _ _ one_id (event_header_of s).members h.id));
-  packet_size = (has_sizes s).0;
-  content_size = (has_sizes s).1;
-  no_events = refl;
-}
-
 stream_block_read : (known : Known) (n : ℕ) (s : StreamType) → IsStreamType known.clocks s → IsStream known.clocks (stream_of n s)
     → stream_meaning known (stream_items n (context_numbers s.context ++ s.extras.members) (event_header_members s.event_header) s.common.members s.common.min_align) ≡ Some (bare n s)
+unfolding bare stream_of
 stream_block_read known n s t h =
     let context = context_numbers s.context ++ s.extras.members in let header = event_header_members s.event_header in
-    subst (λ (k : ℕ). stream_meaning known (stream_items k context header s.common.members s.common.min_align) ≡ Some (bare n s)) (bare-id n s)
-    (stream_is known context header s.common.members s.common.min_align (bare n s) (stream_read known n s t h))
+    stream_is known context header s.common.members s.common.min_align (bare n s)
+    (structure_read known context 8 (context_of s) (context_shows known.clocks s t h.context), all_suit context_names (context_of s).members h.own_are_unsigned)
+    (structure_read known header 8 (event_header_of s) (event_header_shows known.clocks s h.event_header), all_suit (codes "id" ∷ []) (event_header_of s).members (λ k d l. one_id (get_or (event_header_of s).members k d) (h.id k d l)))
+    (structure_read known s.common.members s.common.min_align (shown_struct s.common) (config_shows known.clocks s.common t.common)) (has_sizes s) refl
 
 pub streams_read : (known : Known) (n : ℕ) (ss : List StreamType) → AllByRecursion (IsStreamType known.clocks) ss → AllByRecursion (IsStream known.clocks) (streams_of n ss)
     → each (stream_meaning known) (flat_map stream_in (stream_blocks n ss)) ≡ Some (bares n ss)

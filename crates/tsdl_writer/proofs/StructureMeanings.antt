@@ -1,9 +1,9 @@
 -- What the trees of a structure mean: its members as metadata has them, a dynamic array behind the member of its length.
-use Rattle.tsdl_writer.proofs.TreeWords.{AreMembers, IsStruct, AllByRecursion, At, Auto, Bool, Dyn, FieldType, HasBits, Int, IsDistinct, IsDistinct-head, IsDistinct-tail, Known, List, MemberType, None, Option, Plain, Some, StructType, [], align_of, align_with, ap, append-nil, append_assoc, arith, array_member, bracketed, bytes_eq, bytes_eq-Decides, cases_Bool, chain_of, eq-eqb, eqb, false, false≢true, flat_map, has_member, inl, inr, is_unsigned, le-leb, length, length-append, length_member, length_name, length_place, length_type, list_all, lt-ltb, member_meaning, member_tree, member_trees, members_meaning, names_in, nat_le, nat_lt, natural_number, not, prefix_len, recursion_from_All, refl, shown_members, struct_meaning, struct_type-gives, structure_of, structure_tree, subst, suc, sym, true, ℕ, ◌%◌, ◌&&◌, ◌++◌, ◌+◌, ◌<◌, ◌∙◌, ◌∷◌, ◌≡◌, ◌≤◌}
-use Rattle.ctf_types.specs.Allowed.{IsField}
-use Rattle.tsdl_grammar.specs.declared.tree.MemberTree.{MemberTree}
-use Rattle.tsdl_grammar.specs.declared.tree.Structure.{Structure}
+use Rattle.tsdl_writer.proofs.TreeWords.{get_or, AreMembers, IsStruct, AllByRecursion, At, Auto, Bool, Dyn, FieldType, HasBits, Int, IsDistinct, IsDistinct-head, IsDistinct-tail, Known, List, MemberType, None, Option, Plain, Some, StructType, [], align_of, align_with, ap, append-nil, append_assoc, arith, array_member, bracketed, bytes_eq, bytes_eq-Decides, cases_Bool, chain_of, eq-eqb, eqb, false, false≢true, flat_map, has_member, inl, inr, is_unsigned, le-leb, length, length-append, length_member, length_name, length_place, length_type, list_all, lt-ltb, member_meaning, member_tree, member_trees, members_meaning, names_in, nat_le, nat_lt, natural_number, not, prefix_len, recursion_from_All, refl, shown_members, struct_meaning, struct_type-gives, structure_of, structure_tree, subst, suc, sym, true, ℕ, ◌%◌, ◌&&◌, ◌++◌, ◌+◌, ◌<◌, ◌∙◌, ◌∷◌, ◌≡◌, ◌≤◌}
 use Rattle.tsdl_writer.proofs.FieldMeanings.{AreAutomatic, Members, kind_meant, no_nest, count_meant, lengths_allowed, arrays_of-chain, plain_meant}
+use Rattle.std.proofs.lemmas.{List.Folds.{list_any-append}, List.Sums.{list_all-from_AllPass}}
+use Rattle.ctf_types.specs.Allowed.{IsField}
+use Rattle.tsdl_grammar.specs.declared.{tree.MemberTree.MemberTree, tree.Structure.Structure}
 
 bytes_eq-flip : (x y : List ℕ) → bytes_eq x y ≡ false → bytes_eq y x ≡ false
 bytes_eq-flip x y h = grind (arith, bytes_eq-Decides)
@@ -16,12 +16,7 @@ abbrev pub AreNew : Members → List (List ℕ) → Type 0
 AreNew before names = AllByRecursion (λ w. has_member w before ≡ false) names
 
 still_new : (before : Members) (x w : List ℕ) (t : MemberType) → has_member w before ≡ false → bytes_eq x w ≡ false → has_member w (before ++ (x, t) ∷ []) ≡ false
-still_new [] x w t h e = rw (bytes_eq-flip x w e) refl
-still_new (m ∷ before) x w t h e =
-    elim (cases_Bool (bytes_eq w m.0)) [
-      | inl same ↦ absurd (false≢true (sym h ∙ rw same refl))
-      | inr other ↦ rw other (still_new before x w t (sym (rw other refl) ∙ h) e)
-    ]
+still_new before x w t h e = list_any-append (λ (m : List ℕ × MemberType). bytes_eq w m.0) before ((x, t) ∷ []) ∙ rw (h, bytes_eq-flip x w e) refl
 
 all_still_new : (before : Members) (x : List ℕ) (t : MemberType) (names : List (List ℕ)) → AreNew before names → AllByRecursion (λ y. bytes_eq x y ≡ false) names → AreNew (before ++ (x, t) ∷ []) names
 all_still_new before x t [] h e = tt
@@ -52,10 +47,6 @@ place_meant before n w e h =
     let within : nat_lt (length before) (length (before ++ (w, Plain (Int length_type)) ∷ [])) ≡ true = lt-ltb (length before) (length (before ++ (w, Plain (Int length_type)) ∷ [])) (omega (arith, length-append before ((w, Plain (Int length_type)) ∷ []))) in
     rw (found, within) (ap Some e)
 
-all_positive : (ns : List ℕ) → AllByRecursion (λ n. 0 < n) ns → list_all (nat_lt 0) ns ≡ true
-all_positive [] h = refl
-all_positive (n ∷ ns) h = rw (lt-ltb 0 n h.0, all_positive ns h.1) refl
-
 array_meant : (known : Known) (before : Members) (n : ℕ) (name : List ℕ) (t : FieldType) → length before ≡ n → has_member (length_name name) before ≡ false → IsField known.clocks t → HasBits t
     → member_meaning known (before ++ (length_name name, Plain (Int length_type)) ∷ []) (array_member name (chain_of t)) ≡ Some (Dyn t (At n))
 unfolding member_meaning bracketed
@@ -65,7 +56,7 @@ array_meant known before n name t e new h bits =
       count_meant (chain_of t).lengths,
       place_meant before n (length_name name) e new,
       lengths_allowed (chain_of t).lengths h.1,
-      all_positive (chain_of t).lengths (recursion_from_All (λ k. 0 < k) (chain_of t).lengths bits),
+      list_all-from_AllPass (nat_lt 0) (chain_of t).lengths (λ k d l. lt-ltb 0 (get_or (chain_of t).lengths k d) (bits k d l)),
       arrays_of-chain t,
     ) refl
 

@@ -1,16 +1,15 @@
 -- The structures of an allowed configuration's metadata are what their trees mean, and their members have the types that their names ask for.
-use Rattle.tsdl_writer.proofs.TreeWords.{Config, IsConfigStruct, IsStreamType, IsStruct, StreamType, StructType, context_of, event_header_of, header_of, no_members_shown, shown_struct, struct_is_allowed, struct_with, struct_with-members, ◌∙◌, All, All-head, All-tail, AllByRecursion, AreConfigMembers, At, Dyn, Int, IntType, IsByteType, IsConfigMember, IsIdentity, IsMagic, IsUnsigned, Leaf, List, MemberType, None, Number, Option, Plain, Some, Static, [], bytes_eq, cases_Bool, codes, context_numbers, event_header_members, header_members, inl, inr, is_byte, is_unsigned, is_unsigned_of, is_uuid, list_all, list_any, number_member, refl, shown_members, suits, suits_header, true, uuid_member, ℕ, ◌++◌, ◌∷◌, ◌≡◌}
-use Rattle.std.proofs.lemmas.List.Folds.{list_all-append}
-use Rattle.tsdl_writer.proofs.FieldMeanings.{Members, is_automatic, AreAutomatic}
-use Rattle.tsdl_writer.proofs.StructureMeanings.{Shows}
+use Rattle.tsdl_writer.proofs.TreeWords.{get_or, Config, IsConfigStruct, IsStreamType, IsStruct, StreamType, StructType, context_of, event_header_of, header_of, no_members_shown, shown_struct, struct_is_allowed, struct_with, struct_with-members, ◌∙◌, All, All-head, All-tail, AllByRecursion, AreConfigMembers, At, Dyn, Int, IntType, IsByteType, IsConfigMember, IsIdentity, IsMagic, IsUnsigned, Leaf, List, MemberType, None, Number, Option, Plain, Some, Static, [], bytes_eq, cases_Bool, codes, context_numbers, event_header_members, header_members, inl, inr, is_byte, is_unsigned, is_unsigned_of, is_uuid, list_all, list_any, number_member, refl, shown_members, suits, suits_header, true, uuid_member, ℕ, ◌++◌, ◌∷◌, ◌≡◌}
+use Rattle.tsdl_writer.proofs.{FieldMeanings.{Members, is_automatic, AreAutomatic}, StructureMeanings.Shows}
+use Rattle.std.proofs.lemmas.{List.Folds.{list_all-append}, List.Sums.{list_all-from_AllPass}}
+use Rattle.ctf_types.specs.Allowed.{Where}
 
 config_automatic : (t : MemberType) → IsConfigMember t → is_automatic t ≡ true
 config_automatic (Dyn t (At i)) h = absurd h
 config_automatic _ h = refl
 
 all_automatic : (ms : Members) → All (λ m. IsConfigMember m.1) ms → AreAutomatic ms
-all_automatic [] h = refl
-all_automatic (m ∷ ms) h = rw (config_automatic m.1 (All-head (λ (k : List ℕ × MemberType). IsConfigMember k.1) m ms h), all_automatic ms (All-tail (λ (k : List ℕ × MemberType). IsConfigMember k.1) m ms h)) refl
+all_automatic ms h = list_all-from_AllPass (λ m. is_automatic m.1) ms (λ k d l. config_automatic (get_or ms k d).1 (h k d l))
 
 number_automatic : (name : List ℕ) (o : Option IntType) → AreAutomatic (number_member name o)
 number_automatic name None = refl
@@ -40,21 +39,15 @@ struct_with-align (m ∷ ms) h = refl
 
 pub header_shows : (clocks : List (List ℕ)) (c : Config) → IsStruct clocks (header_of c) → Shows clocks (header_members c.header) 8 (header_of c)
 unfolding header_of
-header_shows clocks c h = record {
-  same = struct_with-members (header_members c.header) ∙ three_shown c.header.magic c.header.uuid c.header.stream_id;
-  aligned = struct_with-align (header_members c.header);
-  automatic = simp (list_all-append, number_automatic, uuid_automatic);
-  allowed = h;
-}
+header_shows clocks c h =
+    let ms = header_members c.header in
+    record { same = struct_with-members ms ∙ three_shown c.header.magic c.header.uuid c.header.stream_id; aligned = struct_with-align ms; automatic = simp (list_all-append, number_automatic, uuid_automatic); allowed = h }
 
 pub event_header_shows : (clocks : List (List ℕ)) (s : StreamType) → IsStruct clocks (event_header_of s) → Shows clocks (event_header_members s.event_header) 8 (event_header_of s)
 unfolding event_header_of
-event_header_shows clocks s h = record {
-  same = struct_with-members (event_header_members s.event_header) ∙ two_shown s.event_header.id s.event_header.timestamp;
-  aligned = struct_with-align (event_header_members s.event_header);
-  automatic = simp (list_all-append, number_automatic);
-  allowed = h;
-}
+event_header_shows clocks s h =
+    let ms = event_header_members s.event_header in
+    record { same = struct_with-members ms ∙ two_shown s.event_header.id s.event_header.timestamp; aligned = struct_with-align ms; automatic = simp (list_all-append, number_automatic); allowed = h }
 
 pub context_shows : (clocks : List (List ℕ)) (s : StreamType) → IsStreamType clocks s → IsStruct clocks (context_of s) → Shows clocks (context_numbers s.context ++ s.extras.members) 8 (context_of s)
 unfolding context_of
@@ -98,14 +91,11 @@ header_member_suits m a b c =
       ]
     ]
 
-pub header_suits : (ms : Members) → AllByRecursion (λ m. bytes_eq m.0 (codes "magic") ≡ true → IsMagic m.1) ms → AllByRecursion (λ m. bytes_eq m.0 (codes "uuid") ≡ true → IsIdentity m.1) ms
-    → AllByRecursion (λ m. bytes_eq m.0 (codes "stream_id") ≡ true → IsUnsigned m.1) ms → list_all suits_header ms ≡ true
-header_suits [] a b c = refl
-header_suits (m ∷ ms) a b c = rw (header_member_suits m a.0 b.0 c.0, header_suits ms a.1 b.1 c.1) refl
+pub header_suits : (ms : Members) → Where (codes "magic") IsMagic ms → Where (codes "uuid") IsIdentity ms → Where (codes "stream_id") IsUnsigned ms → list_all suits_header ms ≡ true
+header_suits ms a b c = list_all-from_AllPass suits_header ms (λ k d l. header_member_suits (get_or ms k d) (a k d l) (b k d l) (c k d l))
 
 member_suits : (names : List (List ℕ)) (m : List ℕ × MemberType) → (list_any (bytes_eq m.0) names ≡ true → IsUnsigned m.1) → suits names m ≡ true
 member_suits names m h = elim (cases_Bool (list_any (bytes_eq m.0) names)) [ inl e ↦ rw (e, unsigned_tested m.1 (h e)) refl | inr e ↦ rw e refl ]
 
-pub all_suit : (names : List (List ℕ)) (ms : Members) → AllByRecursion (λ m. list_any (bytes_eq m.0) names ≡ true → IsUnsigned m.1) ms → list_all (suits names) ms ≡ true
-all_suit names [] h = refl
-all_suit names (m ∷ ms) h = rw (member_suits names m h.0, all_suit names ms h.1) refl
+pub all_suit : (names : List (List ℕ)) (ms : Members) → All (λ m. list_any (bytes_eq m.0) names ≡ true → IsUnsigned m.1) ms → list_all (suits names) ms ≡ true
+all_suit names ms h = list_all-from_AllPass (suits names) ms (λ k d l. member_suits names (get_or ms k d) (h k d l))

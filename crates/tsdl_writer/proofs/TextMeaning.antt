@@ -1,14 +1,12 @@
 -- The blocks of an allowed configuration mean its metadata.
-use Rattle.tsdl_writer.proofs.TreeWords.{AllByRecursion, Block, ClockType, Config, Denotes, EnvironmentEntry, IsConfig, IsHeld, IsHeldClock, IsHeldValue, IsMetadata, IsString, IsStruct, Item, List, Some, StreamType, [], all_event_blocks, ap, append-nil, arith, at_most_one, blocks_of, clock_block, clock_in, clock_meaning, each, environment_blocks, environment_in, event_block, event_blocks, event_in, flat_map, flat_map-append, header_members, header_of, known_of, map, metadata_is_allowed, metadata_of, named_fact_tree, numbered, recursion_from_All, refl, stream_block, stream_blocks, stream_in, streams_meaning, streams_of, struct_with, struct_with-members, structure_of, text_meta, text_toks, trace_block, trace_in, trace_items, written, ℕ, ◌++◌, ◌+◌, ◌∙◌, ◌∷◌, ◌≡◌}
+use Rattle.tsdl_writer.proofs.TreeWords.{All, clock_items, AllByRecursion, Block, ClockType, Config, Denotes, EnvironmentEntry, IsConfig, IsHeld, IsHeldClock, IsHeldValue, IsMetadata, IsString, IsStruct, Item, List, Some, StreamType, [], all_event_blocks, ap, append-nil, arith, at_most_one, blocks_of, clock_block, clock_in, clock_meaning, each, environment_blocks, environment_in, event_block, event_blocks, event_in, flat_map, flat_map-append, header_members, header_of, known_of, map, metadata_is_allowed, metadata_of, named_fact_tree, numbered, recursion_from_All, refl, stream_block, stream_blocks, stream_in, streams_meaning, streams_of, struct_with, struct_with-members, structure_of, text_meta, text_toks, trace_block, trace_in, trace_items, written, ℕ, ◌++◌, ◌+◌, ◌∙◌, ◌∷◌, ◌≡◌}
+use Rattle.tsdl_writer.proofs.{FieldMeanings.each_own, StructureMeanings.structure_read, StructuresRead.{header_shows, header_suits}}
+use Rattle.tsdl_writer.proofs.BlockMeanings.{trace_found, trace_uuid_is, header_is, clock_is, environment_is, no_two-distinct}
+use Rattle.tsdl_writer.proofs.{NumberedBlocks.{none_taken, bares_by_number, all_tagged, all_have, each_with}, StreamMeanings.{streams_read, all_events_read}}
+use Rattle.tsdl_writer.proofs.{LaidStands.text_reads, BlocksWritable.blocks_writable}
+use Rattle.std.proofs.lemmas.{List.Concat.flat_map_single, List.Folds.{flat_map-map}}
 use Rattle.tsdl_grammar.specs.declared.tree.NamedFact.{NamedFact}
 use Rattle.tsdl_grammar.specs.declared.tree.Block.TheVariants as blocks
-use Rattle.tsdl_writer.proofs.StructureMeanings.{structure_read}
-use Rattle.tsdl_writer.proofs.StructuresRead.{header_shows, header_suits}
-use Rattle.tsdl_writer.proofs.BlockMeanings.{trace_found, trace_uuid_is, header_is, clock_is, environment_is, no_two-distinct}
-use Rattle.tsdl_writer.proofs.NumberedBlocks.{none_taken, bares_by_number, all_tagged, all_have, each_with}
-use Rattle.tsdl_writer.proofs.StreamMeanings.{streams_read, all_events_read}
-use Rattle.tsdl_writer.proofs.LaidStands.{text_reads}
-use Rattle.tsdl_writer.proofs.BlocksWritable.{blocks_writable}
 
 numbered_none : {A B C : Type 0} (f : B → List C) (g : ℕ → A → List B) (n : ℕ) (xs : List A) → ((k : ℕ) (x : A) → flat_map f (g k x) ≡ []) → flat_map f (numbered g n xs) ≡ []
 numbered_none f g n [] h = refl
@@ -48,9 +46,9 @@ streams_alone c = taken stream_in c ∙ simp (no_environment stream_in c.environ
 events_alone : (c : Config) → flat_map event_in (blocks_of c) ≡ flat_map event_in (all_event_blocks 0 c.streams)
 events_alone c = taken event_in c ∙ simp (no_environment event_in c.environment (λ fs. refl), none_taken event_in clock_block c.clocks (λ k. refl), no_streams event_in c.streams (λ k s. refl))
 
-clocks_read : (cs : List ClockType) → AllByRecursion IsHeldClock cs → each clock_meaning (flat_map clock_in (map clock_block cs)) ≡ Some cs
-clocks_read [] h = refl
-clocks_read (c ∷ cs) h = rw (clock_is c h.0.uuid h.0.offset_seconds, clocks_read cs h.1) refl
+clocks_read : (cs : List ClockType) → All IsHeldClock cs → each clock_meaning (flat_map clock_in (map clock_block cs)) ≡ Some cs
+clocks_read cs h =
+    ap (each clock_meaning) (flat_map-map clock_in clock_block cs ∙ flat_map_single clock_items cs) ∙ each_own IsHeldClock clock_meaning clock_items (λ c held. clock_is c held.uuid held.offset_seconds) cs h
 
 facts_read : (es : List EnvironmentEntry) → at_most_one (flat_map environment_in (environment_blocks es)) ≡ Some (map named_fact_tree es)
 facts_read [] = refl
@@ -70,9 +68,7 @@ unfolding text_meta metadata_of
 text_meant c h held =
     let m = metadata_is_allowed c h in let at = trace_found c.uuid c.order (header_members c.header) in
     let known = known_of c.order c.clocks in
-    let header = header_is known c.uuid c.order (header_members c.header) (header_of c) (structure_read known (header_members c.header) 8 (header_of c) (header_shows known.clocks c m.header)) (header_suits (header_of c).members (recursion_from_All _ _ m.magic) (recursion_from_All _ _ m.uuid) (recursion_from_All _ _ m.stream_id)) in
-    let entries = recursion_from_All (λ (e : EnvironmentEntry). IsHeldValue e.value) c.environment held.environment in
-    let clocks = recursion_from_All IsHeldClock c.clocks held.clocks in
+    let header = header_is known c.uuid c.order (header_members c.header) (header_of c) (structure_read known (header_members c.header) 8 (header_of c) (header_shows known.clocks c m.header), header_suits (header_of c).members m.magic m.uuid m.stream_id) in
     rw (
       trace_alone c,
       at.0,
@@ -80,9 +76,9 @@ text_meant c h held =
       trace_uuid_is c.uuid c.order (header_members c.header) held.uuid,
       environment_alone c,
       facts_read c.environment,
-      environment_is c.environment entries m.environment_distinct m.environment_few,
+      environment_is c.environment held.environment m.environment_distinct m.environment_few,
       clocks_alone c,
-      clocks_read c.clocks clocks,
+      clocks_read c.clocks held.clocks,
       no_two-distinct (map (λ k. k.name) c.clocks) m.clocks_distinct,
       header,
       streams_meant c h m,

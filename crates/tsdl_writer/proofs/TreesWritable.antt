@@ -1,9 +1,10 @@
 -- The tokens of an allowed configuration's members can be written: their names are identifiers, and their numbers have 64 bits.
 use Rattle.tsdl_writer.proofs.TreeWords.{All, All-contains, All-head, All-tail, AreMembers, At, Auto, Base, Bin, Bool, ByteString, Dyn, Int, IntType, IsLeaf, IsMappedTo, IsMetadataName, IsRange, Labelled, Leaf, List, Mapping, None, Number, Option, Plain, Some, [], arith, attr_toks, base_number, bracket_toks, cases_Bool, cases_lt, chain_of, codes, count_bracket, entries_toks, entry_toks, entry_tree, entry_trees, false, flag_word, flat_map, high_number, high_toks, inl, inr, int_le, int_toks, integer_attributes, ints, is_identifier, kind_toks, kind_tree, length_name, length_type, map, mapping_attributes, max, member_toks, member_trees, mod-eq_of_lt, mul-le-mul_left, mul_comm, names_in, negsuc, next_entry_toks, pos, refl, shown_members, subst, true, ℕ, ℤ, ◌%◌, ◌*◌, ◌++◌, ◌+◌, ◌-◌, ◌<◌, ◌^◌, ◌∷◌, ◌≡◌, ◌≤ℤ◌, ◌≤◌}
-use Rattle.ctf_types.specs.Allowed.{elements_of}
-use Rattle.tsdl_grammar.specs.declared.token.Mark.TheVariants as marks
 use Rattle.tsdl_writer.proofs.Writable.{Can, nothing, mark, word, keyword, number, string, both, ended, in_braces, whole, natural_value, word_value}
 use Rattle.tsdl_writer.proofs.FieldMeanings.{Members, AreAutomatic}
+use Rattle.std.proofs.Math.Nat.{le-mul_of_pos_right, mul-le-mul_right, mul-pos}
+use Rattle.ctf_types.specs.Allowed.{elements_of}
+use Rattle.tsdl_grammar.specs.declared.token.Mark.TheVariants as marks
 
 -- an alignment is at most 4,096
 pub align_fits : (a : ℕ) → 0 < a → 4096 % a ≡ 0 → a < 2 ^ 64
@@ -58,26 +59,18 @@ kind_writable clocks (Labelled t) names h =
     keyword (codes "enum") refl refl (mark marks.Colon (both (integer_writable t.int (clock_named clocks t.int names h.0)) (in_braces (entries_writable t.mappings h.1))))
 kind_writable clocks ByteString names h = keyword (codes "string") refl refl (in_braces (both (word_value (codes "encoding") (codes "UTF8") refl refl (record { identifier = refl; no_keyword = refl })) nothing))
 
-mul_at_least : (m p : ℕ) → 0 < p → m ≤ m * p
-mul_at_least m p h = omega (arith, mul-le-mul_left m h)
-
-product_bounds : (n k p : ℕ) → 0 < p → max 1 n * p ≤ k → (n ≤ k) × (p ≤ k)
-product_bounds n k p some h =
-    let left : max 1 n ≤ max 1 n * p = mul_at_least (max 1 n) p some in
-    let right : p ≤ max 1 n * p = subst (λ (q : ℕ). p ≤ q) (mul_comm p (max 1 n)) (mul_at_least p (max 1 n) (omega arith)) in
-    (omega arith, omega arith)
-
 some_elements : (ns : List ℕ) → 0 < elements_of ns
 unfolding elements_of
 some_elements [] = omega arith
-some_elements (n ∷ ns) = let p : elements_of ns ≤ max 1 n * elements_of ns = subst (λ (q : ℕ). elements_of ns ≤ q) (mul_comm (elements_of ns) (max 1 n)) (mul_at_least (elements_of ns) (max 1 n) (omega arith)) in omega (arith, some_elements ns)
+some_elements (n ∷ ns) = mul-pos (omega arith) (some_elements ns)
 
 counts_writable : (ns : List ℕ) → elements_of ns ≤ 2 ^ 20 → Can (flat_map bracket_toks (map count_bracket ns))
 unfolding elements_of
 counts_writable [] h = nothing
 counts_writable (n ∷ ns) h =
-    let b = product_bounds n (2 ^ 20) (elements_of ns) (some_elements ns) h in
-    mark marks.OpenBracket (number n (omega (arith, b.0)) (mark marks.CloseBracket (counts_writable ns b.1)))
+    let count : max 1 n ≤ max 1 n * elements_of ns = le-mul_of_pos_right (max 1 n) (some_elements ns) in
+    let one : 1 ≤ max 1 n = omega arith in let others = mul-le-mul_right (elements_of ns) one in
+    mark marks.OpenBracket (number n (omega arith) (mark marks.CloseBracket (counts_writable ns (omega arith))))
 
 pub members_writable : (clocks : List (List ℕ)) (n : ℕ) (before ms : Members) → All IsMetadataName clocks → AreAutomatic ms → AreMembers clocks before (shown_members n ms)
     → All IsMetadataName (names_in (shown_members n ms)) → Can (flat_map member_toks (flat_map member_trees ms))

@@ -1,11 +1,8 @@
 -- What the types of the program say of a configuration's values: numbers have their bits, and the text of an identifier is the identifier again.
-use Rattle.std.specs.Prelude.{◌≡◌, ℕ, ◌<◌, ◌^◌, List, Some, IfSome, FitsSigned, All}
-use Rattle.std.specs.Int.{w64}
+use Rattle.std.specs.{Prelude.{◌≡◌, ℕ, ◌<◌, ◌^◌, List, Some, IfSome, FitsSigned, All}, Int.w64}
 use Rattle.uuid.specs.Text.{parsed, hyphenated_text, lower}
-use Rattle.ctf_types.specs.declared.ClockType.{ClockType}
-use Rattle.ctf_types.specs.declared.EnvironmentValue.{EnvironmentValue}
+use Rattle.ctf_types.specs.declared.{ClockType.ClockType, EnvironmentValue.EnvironmentValue, Config.Config}
 use Rattle.ctf_types.specs.declared.EnvironmentValue.TheVariants as environment
-use Rattle.ctf_types.specs.declared.Config.{Config}
 
 -- the text of an identifier is the identifier again
 pub record IsHeldUuid (uuid : List ℕ) : Type 0 where

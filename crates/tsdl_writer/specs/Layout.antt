@@ -1,21 +1,14 @@
 -- How the tokens of metadata are laid out as a text. A block begins a line behind an empty one, tabs indent what stands in it, and each of its
 -- attributes, members and environment entries has a line of its own; the type of a member stands on the member's line.
 -- The gap in front of a token is known from the innermost brace that is open, from the token before and from the token itself.
-use Rattle.std.specs.Prelude.{ℕ, List, [], ◌∷◌, ◌++◌, codes}
-use Rattle.std.specs.Fmt.{decimal}
-use Rattle.tsdl_grammar.specs.declared.token.Mark.{Mark}
+use Rattle.std.specs.{Prelude.{ℕ, List, [], ◌∷◌, ◌++◌, codes}, Fmt.decimal}
+use Rattle.tsdl_grammar.specs.declared.{token.Mark.Mark, atom.Atom.Atom, tree.Block.Block}
 use Rattle.tsdl_grammar.specs.declared.token.Mark.TheVariants as marks
-use Rattle.tsdl_grammar.specs.declared.atom.Atom.{Atom}
 use Rattle.tsdl_grammar.specs.declared.atom.Atom.TheVariants as atoms
-use Rattle.tsdl_grammar.specs.declared.tree.Block.{Block}
-use Rattle.tsdl_grammar.specs.Escapes.{escaped}
-use Rattle.tsdl_grammar.specs.Spelling.{text_toks}
-use Rattle.tsdl_grammar.specs.Tokens.{magic_line, mark_text}
-use Rattle.tsdl_writer.specs.declared.layout.Depth.{Depth}
+use Rattle.tsdl_grammar.specs.{Escapes.escaped, Spelling.text_toks, Tokens.{magic_line, mark_text}}
+use Rattle.tsdl_writer.specs.declared.{layout.Depth.Depth, layout.Place.Place, layout.Next.Next}
 use Rattle.tsdl_writer.specs.declared.layout.Depth.TheVariants as depths
-use Rattle.tsdl_writer.specs.declared.layout.Place.{Place}
 use Rattle.tsdl_writer.specs.declared.layout.Place.TheVariants as places
-use Rattle.tsdl_writer.specs.declared.layout.Next.{Next}
 use Rattle.tsdl_writer.specs.declared.layout.Next.TheVariants as nexts
 
 -- a text stands between its quotes, and nothing spells a literal that is too large

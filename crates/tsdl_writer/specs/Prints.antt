@@ -1,19 +1,12 @@
 -- What a call prints, said by what is left to be printed behind it.
-use Rattle.std.specs.Prelude.{◌≡◌, ℕ, List, [], ◌∷◌, ◌++◌, string_bytes}
-use Rattle.std.specs.List.{AllByRecursion}
-use Rattle.std.specs.Str.{IsUtf8}
+use Rattle.std.specs.{Prelude.{◌≡◌, ℕ, List, [], ◌∷◌, ◌++◌, string_bytes}, List.AllByRecursion, Str.IsUtf8}
 use Rattle.ctf_types.specs.Shown.{length_name}
 use Rattle.tsdl_grammar.specs.declared.atom.Atom.{Atom}
 use Rattle.tsdl_grammar.specs.declared.atom.Atom.TheVariants as atoms
-use Rattle.tsdl_grammar.specs.Spelling.{number_toks}
-use Rattle.tsdl_grammar.specs.Tokens.{magic_line}
-use Rattle.tsdl_writer.specs.declared.layout.Depth.TheVariants.{Top}
-use Rattle.tsdl_writer.specs.declared.layout.Place.TheVariants.{Line, Apart}
-use Rattle.tsdl_writer.specs.declared.printer.Printer.{Printer}
-use Rattle.tsdl_writer.specs.declared.printer.Token.{Token}
+use Rattle.tsdl_grammar.specs.{Spelling.number_toks, Tokens.magic_line}
+use Rattle.tsdl_writer.specs.declared.{layout.Depth.TheVariants.Top, layout.Place.TheVariants.{Line, Apart}, printer.Printer.Printer, printer.Token.Token}
 use Rattle.tsdl_writer.specs.declared.printer.Token.TheVariants as tokens
-use Rattle.tsdl_writer.specs.Trees.{whole_number}
-use Rattle.tsdl_writer.specs.Layout.{laid}
+use Rattle.tsdl_writer.specs.{Trees.whole_number, Layout.laid}
 
 -- what is read of a token that is printed
 abbrev pub token_toks : Token → List Atom

@@ -2,55 +2,28 @@
 -- ranges, strings with their encoding; structures with members, and a dynamic array as its length and then an array of that length (CTF 1.8.3, section 4);
 -- the trace's block, the environment where it is not empty, the clocks, the streams by number, the events by stream and number (section 7).
 use Rattle.std.specs.Prelude.{ℕ, suc, Bool, true, false, if◌then◌else◌, List, [], ◌∷◌, ◌++◌, map, Option, Some, None, ℤ, pos, negsuc, int_le, codes, ◌+◌, flat_map}
-use Rattle.ctf_types.specs.declared.Base.{Base}
-use Rattle.ctf_types.specs.declared.Base.TheVariants.{Bin, Oct, Dec, Hex}
-use Rattle.ctf_types.specs.declared.IntType.{IntType}
-use Rattle.ctf_types.specs.declared.Mapping.{Mapping}
-use Rattle.ctf_types.specs.declared.FieldType.TheVariants.{Int}
-use Rattle.ctf_types.specs.declared.Length.TheVariants.{Auto, At}
-use Rattle.ctf_types.specs.declared.MemberType.{MemberType}
-use Rattle.ctf_types.specs.declared.MemberType.TheVariants.{Plain, Dyn}
-use Rattle.ctf_types.specs.Chain.{Leaf, Chain, Number, Labelled, ByteString}
-use Rattle.ctf_types.specs.FieldTypes.{chain_of}
-use Rattle.ctf_types.specs.Shown.{length_name, length_type}
-use Rattle.tsdl_grammar.specs.declared.atom.Atom.{Atom}
-use Rattle.tsdl_grammar.specs.declared.tree.Sign.TheVariants.{Minus}
+use Rattle.ctf_types.specs.declared.{Base.Base, Base.TheVariants.{Bin, Oct, Dec, Hex}, IntType.IntType, Mapping.Mapping, FieldType.TheVariants.Int}
+use Rattle.ctf_types.specs.declared.{Length.TheVariants.{Auto, At}, MemberType.MemberType, MemberType.TheVariants.{Plain, Dyn}, ByteOrder.ByteOrder}
+use Rattle.ctf_types.specs.declared.{ByteOrder.TheVariants.{Little, Big}, ClockType.ClockType, EnvironmentEntry.EnvironmentEntry, EnvironmentValue.EnvironmentValue}
+use Rattle.ctf_types.specs.declared.{Config.Config, StreamType.StreamType, EventType.EventType}
+use Rattle.ctf_types.specs.{Chain.{Leaf, Chain, Number, Labelled, ByteString}, FieldTypes.chain_of, Shown.{length_name, length_type}}
+use Rattle.ctf_types.specs.MetadataOf.{header_members, context_numbers, event_header_members}
+use Rattle.tsdl_grammar.specs.declared.{atom.Atom.Atom, tree.Sign.TheVariants.Minus, tree.Name.Name, tree.Value.Value, tree.Attribute.Attribute}
+use Rattle.tsdl_grammar.specs.declared.{tree.Label.TheVariants.Quoted, tree.Entry.Entry, tree.Entries.Entries, tree.Kind.Kind, tree.Bracket.Bracket}
+use Rattle.tsdl_grammar.specs.declared.{tree.MemberTree.MemberTree, tree.Structure.Structure, tree.Item.Item, tree.Fact.Fact, tree.NamedFact.NamedFact, tree.Block.Block}
 use Rattle.tsdl_grammar.specs.declared.tree.Number as numbers
-use Rattle.tsdl_grammar.specs.declared.tree.Name.{Name}
-use Rattle.tsdl_grammar.specs.declared.tree.Value.{Value}
 use Rattle.tsdl_grammar.specs.declared.tree.Value.TheVariants as values
-use Rattle.tsdl_grammar.specs.declared.tree.Attribute.{Attribute}
-use Rattle.tsdl_grammar.specs.declared.tree.Label.TheVariants.{Quoted}
-use Rattle.tsdl_grammar.specs.declared.tree.Entry.{Entry}
 use Rattle.tsdl_grammar.specs.declared.tree.Closing.TheVariants as closings
-use Rattle.tsdl_grammar.specs.declared.tree.Entries.{Entries}
 use Rattle.tsdl_grammar.specs.declared.tree.Entries.TheVariants as entries
-use Rattle.tsdl_grammar.specs.declared.tree.Kind.{Kind}
 use Rattle.tsdl_grammar.specs.declared.tree.Kind.TheVariants as kinds
-use Rattle.tsdl_grammar.specs.declared.tree.Bracket.{Bracket}
 use Rattle.tsdl_grammar.specs.declared.tree.Bracket.TheVariants as brackets
-use Rattle.tsdl_grammar.specs.declared.tree.MemberTree.{MemberTree}
-use Rattle.tsdl_grammar.specs.declared.tree.Structure.{Structure}
 use Rattle.tsdl_grammar.specs.Spelling.{member_toks}
 use Rattle.uuid.specs.Text.{hyphenated_text, lower}
-use Rattle.ctf_types.specs.declared.ByteOrder.{ByteOrder}
-use Rattle.ctf_types.specs.declared.ByteOrder.TheVariants.{Little, Big}
-use Rattle.ctf_types.specs.declared.ClockType.{ClockType}
-use Rattle.ctf_types.specs.declared.EnvironmentEntry.{EnvironmentEntry}
-use Rattle.ctf_types.specs.declared.EnvironmentValue.{EnvironmentValue}
 use Rattle.ctf_types.specs.declared.EnvironmentValue.TheVariants as environment
-use Rattle.ctf_types.specs.declared.Config.{Config}
-use Rattle.ctf_types.specs.declared.StreamType.{StreamType}
-use Rattle.ctf_types.specs.declared.EventType.{EventType}
-use Rattle.ctf_types.specs.MetadataOf.{header_members, context_numbers, event_header_members}
 use Rattle.tsdl_grammar.specs.declared.token.Mark.TheVariants as marks
 use Rattle.tsdl_grammar.specs.declared.atom.Atom.TheVariants as atoms
-use Rattle.tsdl_grammar.specs.declared.tree.Item.{Item}
 use Rattle.tsdl_grammar.specs.declared.tree.Item.TheVariants as items
-use Rattle.tsdl_grammar.specs.declared.tree.Fact.{Fact}
 use Rattle.tsdl_grammar.specs.declared.tree.Fact.TheVariants as facts
-use Rattle.tsdl_grammar.specs.declared.tree.NamedFact.{NamedFact}
-use Rattle.tsdl_grammar.specs.declared.tree.Block.{Block}
 use Rattle.tsdl_grammar.specs.declared.tree.Block.TheVariants as blocks
 
 abbrev pub natural_number : ℕ → numbers.Number

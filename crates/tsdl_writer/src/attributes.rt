@@ -4,8 +4,7 @@ ghost use Rattle.std.specs.Prelude.{◌≡◌, ◌<◌, ◌^◌, [], ◌∷◌, 
 ghost use Rattle.tsdl_grammar.specs.declared.atom.Atom.TheVariants as atoms;
 ghost use Rattle.tsdl_grammar.specs.declared.token.Mark.TheVariants as marks;
 ghost use Rattle.tsdl_grammar.specs.Spelling.{attr_toks, item_toks};
-ghost use Rattle.tsdl_writer.specs.Trees.{flag_word, natural_attribute, natural_item, text_item, optional_items, uuid_item};
-ghost use Rattle.tsdl_writer.specs.Held.{IsHeldUuid};
+ghost use Rattle.tsdl_writer.specs.{Trees.{flag_word, natural_attribute, natural_item, text_item, optional_items, uuid_item}, Held.IsHeldUuid};
 ghost use Rattle.tsdl_writer.specs.Prints.{Prints, token_toks};
 
 use crate::printer::Token::{Mark, Number, Quoted, Word};

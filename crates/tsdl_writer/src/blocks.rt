@@ -3,8 +3,7 @@
 ghost use Rattle.std.specs.Prelude.{◌≡◌, All, IfSome, OnOk, flat_map};
 ghost use Rattle.tsdl_grammar.specs.Spelling.{named_fact_toks, block_and_semicolon};
 ghost use Rattle.tsdl_writer.specs.Trees.{order_word, trace_block, named_fact_tree, environment_blocks, clock_block, stream_block, event_block};
-ghost use Rattle.tsdl_writer.specs.Held.{IsHeldUuid, IsHeldClock, IsHeldValue};
-ghost use Rattle.tsdl_writer.specs.Prints.{Prints};
+ghost use Rattle.tsdl_writer.specs.{Held.{IsHeldUuid, IsHeldClock, IsHeldValue}, Prints.Prints};
 
 use crate::attributes::{attribute, description, flag_word, log_level, natural, uuid};
 use crate::printer::Token::{Mark, Number, Quoted, Whole, Word};

@@ -1,11 +1,9 @@
 //! Members of structures, each on a line of its own.
 
 ghost use Rattle.std.specs.Prelude.{map, Some, OnOk, flat_map};
-ghost use Rattle.ctf_types.specs.FieldTypes.{chain_of};
-ghost use Rattle.ctf_types.specs.MetadataOf.{number_member, uuid_member};
+ghost use Rattle.ctf_types.specs.{FieldTypes.chain_of, MetadataOf.{number_member, uuid_member}};
 ghost use Rattle.tsdl_grammar.specs.Spelling.{bracket_toks};
-ghost use Rattle.tsdl_writer.specs.Trees.{count_bracket, member_toks_of};
-ghost use Rattle.tsdl_writer.specs.Prints.{Prints};
+ghost use Rattle.tsdl_writer.specs.{Trees.{count_bracket, member_toks_of}, Prints.Prints};
 
 use crate::printer::Token::{LengthOf, Mark, Number, Word};
 use crate::printer::{Printed, Printer};

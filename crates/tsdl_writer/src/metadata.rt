@@ -1,14 +1,9 @@
 //! The metadata text of a configuration.
 
 ghost use Rattle.std.specs.Prelude.{◌≡◌, map, All, IfOk, OnOk, string_bytes};
-ghost use Rattle.ctf_types.specs.AllowedConfig.{IsConfig};
-ghost use Rattle.ctf_types.specs.MetadataOf.{metadata_of};
-ghost use Rattle.tsdl_grammar.specs.Denotes.{Denotes};
-ghost use Rattle.tsdl_grammar.specs.Spelling.{text_toks};
-ghost use Rattle.tsdl_writer.specs.Trees.{clock_block, stream_blocks, event_blocks, all_event_blocks};
-ghost use Rattle.tsdl_writer.specs.Held.{IsHeldClock};
-ghost use Rattle.tsdl_writer.specs.Prints.{Prints};
-ghost use Rattle.tsdl_writer.specs.Written.{written};
+ghost use Rattle.ctf_types.specs.{AllowedConfig.IsConfig, MetadataOf.metadata_of};
+ghost use Rattle.tsdl_grammar.specs.{Denotes.Denotes, Spelling.text_toks};
+ghost use Rattle.tsdl_writer.specs.{Trees.{clock_block, stream_blocks, event_blocks, all_event_blocks}, Held.IsHeldClock, Prints.Prints, Written.written};
 
 use crate::blocks::{clock, environment, event, stream, trace};
 use crate::printer::{Printed, Printer};
@@ -59,6 +54,7 @@ fn all_events(out: &mut Printer, streams: &[StreamType]) -> Printed
     Ok(())
 }
 
+#[tactic(auto, using(crate::proofs::Printing::begun))]
 fn events(out: &mut Printer, stream_id: u64, events: &[EventType]) -> Printed
     ensures { OnOk result (Prints out.old out.new (text_toks (event_blocks stream_id 0 events.now))) }
 {

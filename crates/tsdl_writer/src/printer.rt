@@ -2,8 +2,7 @@
 
 ghost use Rattle.std.specs.Prelude.{◌≡◌, ◌++◌, [], ◌∷◌, IfOk, OnOk, codes, string_bytes, flat_map};
 ghost use Rattle.tsdl_grammar.specs.declared.atom.Atom.TheVariants as atoms;
-ghost use Rattle.tsdl_writer.specs.Layout.{gap};
-ghost use Rattle.tsdl_writer.specs.Prints.{Begins, Puts, Prints, token_toks};
+ghost use Rattle.tsdl_writer.specs.{Layout.gap, Prints.{Begins, Puts, Prints, token_toks}};
 
 use crate::layout::{Depth, Next, Place, behind, gap, mark_next};
 use std::alloc::{AllocError, Global};

@@ -4,8 +4,7 @@ ghost use Rattle.std.specs.Prelude.{◌≡◌, ◌++◌, OnOk, codes, flat_map};
 ghost use Rattle.ctf_types.specs.MetadataOf.{header_members, context_numbers, event_header_members};
 ghost use Rattle.tsdl_grammar.specs.declared.tree.Name.{Name};
 ghost use Rattle.tsdl_grammar.specs.Spelling.{name_toks, item_toks};
-ghost use Rattle.tsdl_writer.specs.Trees.{two_words, scope_items, closing};
-ghost use Rattle.tsdl_writer.specs.Prints.{Prints, token_toks};
+ghost use Rattle.tsdl_writer.specs.{Trees.{two_words, scope_items, closing}, Prints.{Prints, token_toks}};
 
 use crate::members::{feature, identifier, members, number};
 use crate::printer::Token::{Mark, Number, Word};

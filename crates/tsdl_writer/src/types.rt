@@ -3,8 +3,7 @@
 ghost use Rattle.std.specs.Prelude.{◌≡◌, OnOk, option_map, flat_map};
 ghost use Rattle.ctf_types.specs.FieldTypes.{chain_of};
 ghost use Rattle.tsdl_grammar.specs.Spelling.{attr_toks, int_toks, entry_toks, entries_toks, kind_toks};
-ghost use Rattle.tsdl_writer.specs.Trees.{base_number, mapping_attributes, integer_attributes, entry_tree, entry_trees, kind_tree};
-ghost use Rattle.tsdl_writer.specs.Prints.{Prints};
+ghost use Rattle.tsdl_writer.specs.{Trees.{base_number, mapping_attributes, integer_attributes, entry_tree, entry_trees, kind_tree}, Prints.Prints};
 
 use crate::attributes::{attribute, flag_word};
 use crate::printer::Token::{Mark, Number, Quoted, Whole, Word};

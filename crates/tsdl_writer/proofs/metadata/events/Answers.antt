@@ -1,9 +1,6 @@
 use Rattle.tsdl_writer.proofs.Printing.{EventType, List, ap, block_and_semicolon, drop, drop_all, event_block, event_blocks, text_toks, ◌+◌, begun, one_more, all_printed, item}
 use Rattle.tsdl_writer.proofs.metadata.events.Goals as goal
 
-pub loop-id-init : goal.loop-id-init
-loop-id-init c = begun _ _
-
 pub loop-id-preserved : goal.loop-id-preserved
 loop-id-preserved c =
     let x = c.index-events-id.result in let xs = c.args.events.now in let id = c.loop-id.id in
