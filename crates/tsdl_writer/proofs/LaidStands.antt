@@ -1,6 +1,7 @@
 -- What is laid out spells its tokens again, whatever they are, where each of them can be written.
 use Rattle.tsdl_writer.proofs.TreeWords.{AllByRecursion, Atom, Block, IsString, List, Mark, [], ap, arith, codes, eqb, false, get_or, is_digit, is_identifier, is_letter, is_read, list_all, nat_tests, not, prefix_len, refl, text_toks, true, ℕ, ◌++◌, ◌||◌, ◌∙◌, ◌∷◌, ◌≡◌}
 use Rattle.tsdl_writer.proofs.Writable.{IsWritable}
+use Rattle.std.proofs.lemmas.List.Sums.{AllPass-from_list_all, list_all-from_AllPass}
 use Rattle.tsdl_grammar.specs.declared.token.Mark.TheVariants as marks
 use Rattle.tsdl_grammar.specs.declared.atom.Atom.TheVariants as atoms
 use Rattle.tsdl_grammar.specs.{Bytes.{is_blank, is_name_start, is_name_byte}, Tokens.{HasMagicLine, mark_text}, Atoms.{Spells, Reads}}
@@ -29,10 +30,7 @@ goes_on : (b : ℕ) → (is_letter b || is_digit b) ≡ true → is_name_byte b 
 goes_on b h = grind (arith, nat_tests)
 
 all_go_on : (bs : List ℕ) → list_all (λ d. is_letter d || is_digit d) bs ≡ true → list_all is_name_byte bs ≡ true
-all_go_on [] h = refl
-all_go_on (b ∷ bs) h =
-    let both = and_true (is_letter b || is_digit b) (list_all (λ d. is_letter d || is_digit d) bs) h in
-    rw (goes_on b both.0, all_go_on bs both.1) refl
+all_go_on bs h = list_all-from_AllPass is_name_byte bs (λ k d l. goes_on (get_or bs k d) (AllPass-from_list_all (λ b. is_letter b || is_digit b) bs h k d l))
 
 is_name : (w : List ℕ) → is_identifier w ≡ true → IsName w
 unfolding is_identifier

@@ -42,6 +42,7 @@ fn order_word(order: ByteOrder) -> &'static str
 }
 
 /// The environment block, where there are entries.
+#[tactic(auto, using(crate::proofs::Printing::begun))]
 pub(crate) fn environment(out: &mut Printer, entries: &[EnvironmentEntry]) -> Printed
     ensures prints { OnOk result (Prints out.old out.new (flat_map block_and_semicolon (environment_blocks entries.now))) }
     ensures held { OnOk result (All (λ e. IsHeldValue e.value) entries.now) }

@@ -12,6 +12,7 @@ use ctf_types::{Base, FieldType, IntType, Length, MemberType, Members};
 use tsdl_grammar::Mark::{CloseBracket, OpenBracket, Semicolon};
 
 /// The members of a structure. A dynamic array has its length in a member before it.
+#[tactic(auto, using(crate::proofs::Printing::begun))]
 pub(crate) fn members(out: &mut Printer, members: &Members) -> Printed
     ensures { OnOk result (Prints out.old out.new (flat_map member_toks_of members.now)) }
 {

@@ -1,4 +1,5 @@
 //! The metadata text of a configuration.
+#![tactic(auto, using(crate::proofs::Printing::begun))]
 
 ghost use Rattle.std.specs.Prelude.{◌≡◌, map, All, IfOk, OnOk, string_bytes};
 ghost use Rattle.ctf_types.specs.{AllowedConfig.IsConfig, MetadataOf.metadata_of};
@@ -54,7 +55,6 @@ fn all_events(out: &mut Printer, streams: &[StreamType]) -> Printed
     Ok(())
 }
 
-#[tactic(auto, using(crate::proofs::Printing::begun))]
 fn events(out: &mut Printer, stream_id: u64, events: &[EventType]) -> Printed
     ensures { OnOk result (Prints out.old out.new (text_toks (event_blocks stream_id 0 events.now))) }
 {

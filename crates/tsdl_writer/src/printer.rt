@@ -56,6 +56,7 @@ impl Printer {
     }
 
     /// Tokens, one behind the other.
+    #[tactic(auto, using(crate::proofs::Printing::begun))]
     pub(crate) fn print(&mut self, tokens: &[Token<'_>]) -> Printed
         ensures { OnOk result (Prints self.old self.new (flat_map token_toks tokens.now)) }
     {

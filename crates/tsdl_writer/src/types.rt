@@ -69,6 +69,7 @@ fn base_number(base: Base) -> u64
 }
 
 /// The entries of an enumeration, `"LABEL" = 0, "LABEL" = 1 ... 3`.
+#[tactic(auto, using(crate::proofs::Printing::begun))]
 fn entries(out: &mut Printer, mappings: &[Mapping]) -> Printed
     ensures { OnOk result (Prints out.old out.new (entries_toks (entry_trees mappings.now))) }
 {

@@ -1,9 +1,6 @@
 use Rattle.tsdl_writer.proofs.Printing.{EnvironmentEntry, IsHeldValue, List, ap, drop, drop_all, false≢true, flat_map, length, map, named_fact_toks, named_fact_tree, rules, sym, ◌+◌, ◌==◌, ◌∙◌, last, begun, one_more, all_printed, item, environment_stands, all_more, all_met}
 use Rattle.tsdl_writer.proofs.blocks.environment.Goals as goal
 
-pub loop-entry-init : goal.loop-entry-init
-loop-entry-init c = record { prints = begun _ _; held = search rules }
-
 pub loop-entry-preserved : goal.loop-entry-preserved
 loop-entry-preserved c =
     let x = c.entry-item.result in let xs = c.args.entries.now in let i = c.loop-entry.entry-index in

@@ -1,9 +1,6 @@
 use Rattle.tsdl_writer.proofs.Printing.{ap, arith, drop, drop_all, flat_map, length, member_toks_of, ◌+◌, ◌≤◌, begun, one_more, all_printed, member_at}
 use Rattle.tsdl_writer.proofs.members.members.Goals as goal
 
-pub loop-index-init : goal.loop-index-init
-loop-index-init c = begun _ _
-
 pub loop-index-preserved : goal.loop-index-preserved
 loop-index-preserved c =
     let name = c.name_at.result.now in let t = c.member_at.result.now in let ms = c.args.members.now in let i = c.loop-index.index in

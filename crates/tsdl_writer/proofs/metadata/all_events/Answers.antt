@@ -1,9 +1,6 @@
 use Rattle.tsdl_writer.proofs.Printing.{EventType, List, Prints, StreamType, all_event_blocks, ap, block_and_semicolon, drop, drop_all, event_blocks, flat_map-append, subst, text_toks, ◌+◌, ◌∙◌, begun, one_more, all_printed, item}
 use Rattle.tsdl_writer.proofs.metadata.all_events.Goals as goal
 
-pub loop-id-init : goal.loop-id-init
-loop-id-init c = begun _ _
-
 pub loop-id-preserved : goal.loop-id-preserved
 loop-id-preserved c =
     let x = c.index-streams-id.result in let xs = c.args.streams.now in let id = c.loop-id.id in

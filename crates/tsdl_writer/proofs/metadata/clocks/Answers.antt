@@ -1,9 +1,6 @@
 use Rattle.tsdl_writer.proofs.Printing.{ClockType, IsHeldClock, List, ap, block_and_semicolon, clock_block, drop, drop_all, map, rules, text_toks, ◌+◌, begun, one_more, all_printed, item, all_more, all_met}
 use Rattle.tsdl_writer.proofs.metadata.clocks.Goals as goal
 
-pub loop-one-init : goal.loop-one-init
-loop-one-init c = record { prints = begun _ _; held = search rules }
-
 pub loop-one-preserved : goal.loop-one-preserved
 loop-one-preserved c =
     let x = c.one-item.result in let xs = c.args.clocks.now in let i = c.loop-one.one-index in

@@ -1,9 +1,6 @@
 use Rattle.tsdl_writer.proofs.Printing.{Ends, List, Mapping, ap, arith, drop, drop_all, entries_toks, entry_toks, entry_tree, entry_trees, flat_map, length, map, next_entry_toks, subst, sym, take, take_rest, ◌++◌, ◌+◌, ◌-◌, ◌<◌, ◌∙◌, ◌∷◌, ◌≡◌, begun, one_more, all_printed, item, groups}
 use Rattle.tsdl_writer.proofs.types.entries.Goals as goal
 
-pub loop-mapping-init : goal.loop-mapping-init
-loop-mapping-init c = begun _ _
-
 pub loop-mapping-preserved : goal.loop-mapping-preserved
 loop-mapping-preserved c =
     let x = c.mapping-item.result in let ms = c.args.mappings.now in let xs = take (length ms - 1) (drop 1 ms) in let i = c.loop-mapping.mapping-index in

@@ -1,9 +1,6 @@
 use Rattle.tsdl_writer.proofs.Printing.{ap, drop, drop_all, drop_more, flat_map, token_toks, ◌+◌, begun, one_more, all_printed}
 use Rattle.tsdl_writer.proofs.printer.Printer.print.Goals as goal
 
-pub loop-token-init : goal.loop-token-init
-loop-token-init c = begun _ _
-
 pub loop-token-preserved : goal.loop-token-preserved
 loop-token-preserved c =
     let xs = c.args.tokens.now in let i = c.loop-token.token-index in
