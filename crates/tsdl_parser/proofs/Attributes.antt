@@ -1,17 +1,16 @@
 -- Names, values and attributes are read as they are spelled. A name goes on for as long as dots follow.
 use Rattle.tsdl_parser.proofs.Steps.{Atom, many, Attribute, List, Name, Number, Some, [], along, ap, append_assoc, arith, attr_at, attr_behind, attr_toks, begins, dotted, dotted_at, false, is_open, length, mark, mark_at, name_at, name_toks, number_at, number_toks, refl, signed_at, step, value_at, value_toks, word, word_at, ℕ, ◌++◌, ◌∙◌, ◌∷◌, ◌≡◌}
+use Rattle.tsdl_parser.proofs.{Words.{mark_step, word_takes, number_as, by_sign}, Repeated.{Spells, Anything, anywhere, many_take, many_again}}
 use Rattle.tsdl_grammar.specs.declared.token.Mark.TheVariants as marks
 use Rattle.tsdl_grammar.specs.declared.atom.Atom.TheVariants as atoms
 use Rattle.tsdl_grammar.specs.declared.tree.Value.{Value}
 use Rattle.tsdl_grammar.specs.declared.tree.Value.TheVariants as values
-use Rattle.tsdl_parser.proofs.Words.{mark_step, word_takes, number_as, by_sign}
-use Rattle.tsdl_parser.proofs.Repeated.{Spells, Anything, anywhere, many_take, many_again}
 
 dotted_takes : (ts : List Atom) (x : List ℕ × List Atom) → dotted_at ts ≡ Some x → ts ≡ dotted x.0 ++ x.1
 unfolding dotted_at
 dotted_takes ts x e =
     let a = mark_step marks.Dot ts word_at x e in
-    a.1 ∙ ap (λ (us : List Atom). mark marks.Dot ∷ us) (word_takes a.0 x a.2)
+    let b = word_takes a.0 x a.2 in cc
 
 pub dotted_spells : Spells (List ℕ) (begins marks.Dot) dotted_at dotted Anything
 unfolding dotted_at mark_at word_at begins

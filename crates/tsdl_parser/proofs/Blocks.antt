@@ -1,21 +1,16 @@
 -- Blocks, and what stands in them, are read as they are spelled, so a list of atoms spells at most one list of blocks.
-use Rattle.tsdl_parser.proofs.Steps.{◌>>=◌, bind_some, Atom, Fails, List, Name, None, Number, Some, Unread, [], all_blocks_at, along, ap, append-nil, append_assoc, arith, attr_behind, begins, block_and_semicolon, block_at, block_toks, braced_at, chosen, codes, ended_block_at, fact_at, fact_toks, false, has_more, inl, inr, is_open, item_at, item_toks, items_at, items_toks, keyword_at, length, length-append, mark, mark_at, name_at, name_toks, named_fact_at, named_fact_toks, names, number_at, number_toks, refl, scope_behind, scope_toks, signed_at, some_is, splice, step, struct_at, struct_toks, sym, text_toks, true, word, word_at, ℕ, ◌++◌, ◌<◌, ◌∙◌, ◌∷◌, ◌≡◌}
+use Rattle.tsdl_parser.proofs.Steps.{◌>>=◌, bind_some, Atom, Fails, List, Name, None, Number, Some, Unread, [], all_blocks_at, along, ap, append-nil, append_assoc, arith, attr_behind, begins, block_and_semicolon, block_at, block_toks, braced_at, either, codes, ended_block_at, fact_at, fact_toks, false, has_more, is_open, item_at, item_toks, items_at, items_toks, keyword_at, length, length-append, mark, mark_at, name_at, name_toks, named_fact_at, named_fact_toks, names, number_at, number_toks, refl, scope_behind, scope_toks, signed_at, some_is, splice, step, struct_at, struct_toks, sym, text_toks, true, word, word_at, ℕ, ◌++◌, ◌<◌, ◌∙◌, ◌∷◌, ◌≡◌}
+use Rattle.tsdl_parser.proofs.Words.{mark_step, word_takes, keyword_step, number_as, by_sign}
+use Rattle.tsdl_parser.proofs.Repeated.{Spells, Anything, anywhere, many_take, many_again, braced_take, braced_again}
+use Rattle.tsdl_parser.proofs.{Attributes.{name_takes, name_again, behind_takes, value_part, attr_parts, behind_again}, Members.{struct_takes, struct_again}}
 use Rattle.tsdl_grammar.specs.declared.token.Mark.TheVariants as marks
 use Rattle.tsdl_grammar.specs.declared.atom.Atom.TheVariants as atoms
-use Rattle.tsdl_grammar.specs.declared.tree.Scope.{Scope}
-use Rattle.tsdl_grammar.specs.declared.tree.Item.{Item}
+use Rattle.tsdl_grammar.specs.declared.{tree.Scope.Scope, tree.Item.Item, tree.Fact.Fact, tree.NamedFact.NamedFact, tree.Block.Block}
 use Rattle.tsdl_grammar.specs.declared.tree.Item.TheVariants as items
-use Rattle.tsdl_grammar.specs.declared.tree.Fact.{Fact}
 use Rattle.tsdl_grammar.specs.declared.tree.Fact.TheVariants as facts
-use Rattle.tsdl_grammar.specs.declared.tree.NamedFact.{NamedFact}
-use Rattle.tsdl_grammar.specs.declared.tree.Block.{Block}
 use Rattle.tsdl_grammar.specs.declared.tree.Block.TheVariants as blocks
 use Rattle.tsdl_parser.specs.declared.halt.Unread.TheVariants as unread
 use Rattle.tsdl_parser.specs.Halting.{IfHalted}
-use Rattle.tsdl_parser.proofs.Words.{mark_step, word_takes, keyword_step, number_as, by_sign}
-use Rattle.tsdl_parser.proofs.Repeated.{Spells, Anything, anywhere, many_take, many_again, braced_take, braced_again}
-use Rattle.tsdl_parser.proofs.Attributes.{name_takes, name_again, behind_takes, value_part, attr_parts, behind_again}
-use Rattle.tsdl_parser.proofs.Members.{struct_takes, struct_again}
 
 -- ---- scopes and items
 
@@ -40,14 +35,11 @@ item_takes : (ts : List Atom) (x : Item × List Atom) → item_at ts ≡ Some x 
 unfolding item_at
 item_takes ts x e =
     let a = step (name_at ts) _ x (name_takes ts) e in
-    elim (chosen (begins marks.Equals a.0.1) _ _ (Some x) a.2) [
-      | inl h ↦
-          let b = step (attr_behind a.0.0 a.0.1) _ x (behind_takes a.0.0 a.0.1) h.1 in
-          along (λ (y : Item × List Atom). ts ≡ item_toks y.0 ++ y.1) (items.Attribute b.0.0, b.0.1) x b.2 (a.1 ∙ b.1)
-      | inr h ↦
-          let b = step (scope_behind a.0.0 a.0.1) _ x (scope_takes a.0.0 a.0.1) h.1 in
-          along (λ (y : Item × List Atom). ts ≡ item_toks y.0 ++ y.1) (items.Scope b.0.0, b.0.1) x b.2 (a.1 ∙ b.1)
-    ]
+    either (begins marks.Equals a.0.1) _ _ (Some x) a.2 (λ go f.
+    let b = step (attr_behind a.0.0 a.0.1) _ x (behind_takes a.0.0 a.0.1) f in
+    along (λ (y : Item × List Atom). ts ≡ item_toks y.0 ++ y.1) (items.Attribute b.0.0, b.0.1) x b.2 (a.1 ∙ b.1)) (λ stop f.
+    let b = step (scope_behind a.0.0 a.0.1) _ x (scope_takes a.0.0 a.0.1) f in
+    along (λ (y : Item × List Atom). ts ≡ item_toks y.0 ++ y.1) (items.Scope b.0.0, b.0.1) x b.2 (a.1 ∙ b.1))
 
 item_again : (i : Item) (rest : List Atom) → item_at (item_toks i ++ rest) ≡ Some (i, rest)
 unfolding item_at begins
@@ -121,22 +113,13 @@ items_again keyword is ts rest e = rw e (braced_again item_at item_toks item_spe
 block_takes : (ts : List Atom) (x : Block × List Atom) → block_at ts ≡ Some x → ts ≡ block_toks x.0 ++ x.1
 unfolding block_at
 block_takes ts x e =
-    elim (chosen (names (codes "trace") ts) _ _ (Some x) e) [
-      | inl h ↦ items_take (codes "trace") blocks.Trace (λ is. refl) ts x h.1
-      | inr h ↦ elim (chosen (names (codes "stream") ts) _ _ (Some x) h.1) [
-        | inl h ↦ items_take (codes "stream") blocks.Stream (λ is. refl) ts x h.1
-        | inr h ↦ elim (chosen (names (codes "event") ts) _ _ (Some x) h.1) [
-          | inl h ↦ items_take (codes "event") blocks.Event (λ is. refl) ts x h.1
-          | inr h ↦ elim (chosen (names (codes "clock") ts) _ _ (Some x) h.1) [
-            | inl h ↦ items_take (codes "clock") blocks.Clock (λ is. refl) ts x h.1
-            | inr h ↦
-                let a = keyword_step (codes "env") ts _ x h.1 in
-                let b = step (braced_at named_fact_at a.0) _ x (braced_take named_fact_at named_fact_toks fact_spells a.0) a.2 in
-                along (λ (y : Block × List Atom). ts ≡ block_toks y.0 ++ y.1) (blocks.Environment b.0.0, b.0.1) x b.2 (a.1 ∙ ap (λ (us : List Atom). word (codes "env") ∷ us) b.1)
-          ]
-        ]
-      ]
-    ]
+    either (names (codes "trace") ts) _ _ (Some x) e (λ go. items_take (codes "trace") blocks.Trace (λ is. refl) ts x) (λ stop f.
+    either (names (codes "stream") ts) _ _ (Some x) f (λ go. items_take (codes "stream") blocks.Stream (λ is. refl) ts x) (λ stop g.
+    either (names (codes "event") ts) _ _ (Some x) g (λ go. items_take (codes "event") blocks.Event (λ is. refl) ts x) (λ stop h.
+    either (names (codes "clock") ts) _ _ (Some x) h (λ go. items_take (codes "clock") blocks.Clock (λ is. refl) ts x) (λ stop i.
+    let a = keyword_step (codes "env") ts _ x i in
+    let b = step (braced_at named_fact_at a.0) _ x (braced_take named_fact_at named_fact_toks fact_spells a.0) a.2 in
+    along (λ (y : Block × List Atom). ts ≡ block_toks y.0 ++ y.1) (blocks.Environment b.0.0, b.0.1) x b.2 (a.1 ∙ ap (λ (us : List Atom). word (codes "env") ∷ us) b.1)))))
 
 block_again : (b : Block) (rest : List Atom) → block_at (block_toks b ++ rest) ≡ Some (b, rest)
 unfolding block_at names keyword_at
@@ -151,8 +134,7 @@ unfolding ended_block_at
 ended_takes ts x e =
     let a = step (block_at ts) _ x (block_takes ts) e in
     let b = mark_step marks.Semicolon a.0.1 _ x a.2 in
-    along (λ (y : Block × List Atom). ts ≡ block_and_semicolon y.0 ++ y.1) (a.0.0, b.0) x b.2
-    (a.1 ∙ ap (λ (us : List Atom). block_toks a.0.0 ++ us) b.1 ∙ sym (append_assoc (block_toks a.0.0) (mark marks.Semicolon ∷ []) b.0))
+    let parts = append_assoc (block_toks a.0.0) (mark marks.Semicolon ∷ []) b.0 in cc
 
 ended_again : (b : Block) (rest : List Atom) → ended_block_at (block_and_semicolon b ++ rest) ≡ Some (b, rest)
 unfolding ended_block_at mark_at

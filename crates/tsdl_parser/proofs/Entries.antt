@@ -1,16 +1,12 @@
 -- The entries of enumerations are read as they are spelled. A range goes on where `...` follows, and the entries where a
 -- comma and a label follow.
-use Rattle.tsdl_parser.proofs.Steps.{Atom, many, Entries, List, None, Number, Option, Some, along, ap, append_assoc, arith, begins, chosen, closing_at, closing_toks, entries_at, entries_toks, entry_at, entry_toks, false, flat_map, high_at, high_toks, inl, inr, is_labelled, is_next, label_at, label_toks, length, listed_at, mark, mark_at, next_entry_at, next_entry_toks, number_at, number_toks, refl, splice, step, sym, true, word, ◌++◌, ◌∙◌, ◌∷◌, ◌≡◌}
+use Rattle.tsdl_parser.proofs.Steps.{Atom, many, Entries, List, None, Number, Option, Some, along, ap, append_assoc, arith, begins, either, closing_at, closing_toks, entries_at, entries_toks, entry_at, entry_toks, false, flat_map, high_at, high_toks, is_labelled, is_next, label_at, label_toks, length, listed_at, mark, mark_at, next_entry_at, next_entry_toks, number_at, number_toks, refl, splice, step, sym, true, word, ◌++◌, ◌∙◌, ◌∷◌, ◌≡◌}
+use Rattle.tsdl_parser.proofs.{Words.{mark_step, number_takes, number_again}, Repeated.{Spells, all_end, many_take, many_again}}
 use Rattle.tsdl_grammar.specs.declared.token.Mark.TheVariants as marks
 use Rattle.tsdl_grammar.specs.declared.atom.Atom.TheVariants as atoms
-use Rattle.tsdl_grammar.specs.declared.tree.Label.{Label}
-use Rattle.tsdl_grammar.specs.declared.tree.Label.TheVariants.{Quoted, Bare}
-use Rattle.tsdl_grammar.specs.declared.tree.Entry.{Entry}
-use Rattle.tsdl_grammar.specs.declared.tree.Closing.{Closing}
+use Rattle.tsdl_grammar.specs.declared.{tree.Label.Label, tree.Label.TheVariants.{Quoted, Bare}, tree.Entry.Entry, tree.Closing.Closing}
 use Rattle.tsdl_grammar.specs.declared.tree.Closing.TheVariants as closings
 use Rattle.tsdl_grammar.specs.declared.tree.Entries.TheVariants as entries
-use Rattle.tsdl_parser.proofs.Words.{mark_step, number_takes, number_again}
-use Rattle.tsdl_parser.proofs.Repeated.{Spells, all_end, many_take, many_again}
 
 label_takes : (ts : List Atom) (x : Label × List Atom) → label_at ts ≡ Some x → ts ≡ label_toks x.0 ++ x.1
 unfolding label_at
@@ -30,14 +26,11 @@ NoEllipsis ts = begins marks.Ellipsis ts ≡ false
 high_takes : (ts : List Atom) (x : Option Number × List Atom) → high_at ts ≡ Some x → ts ≡ high_toks x.0 ++ x.1
 unfolding high_at
 high_takes ts x e =
-    elim (chosen (begins marks.Ellipsis ts) _ _ (Some x) e) [
-      | inl h ↦
-          let a = mark_step marks.Ellipsis ts _ x h.1 in
-          let b = step (number_at a.0) _ x (number_takes a.0) a.2 in
-          along (λ (y : Option Number × List Atom). ts ≡ high_toks y.0 ++ y.1) (Some b.0.0, b.0.1) x b.2
-          (a.1 ∙ ap (λ (us : List Atom). mark marks.Ellipsis ∷ us) b.1)
-      | inr h ↦ along (λ (y : Option Number × List Atom). ts ≡ high_toks y.0 ++ y.1) (None, ts) x h.1 refl
-    ]
+    either (begins marks.Ellipsis ts) _ _ (Some x) e (λ go f.
+    let a = mark_step marks.Ellipsis ts _ x f in
+    let b = step (number_at a.0) _ x (number_takes a.0) a.2 in
+    along (λ (y : Option Number × List Atom). ts ≡ high_toks y.0 ++ y.1) (Some b.0.0, b.0.1) x b.2 (a.1 ∙ ap (λ (us : List Atom). mark marks.Ellipsis ∷ us) b.1))
+    (λ stop f. along (λ (y : Option Number × List Atom). ts ≡ high_toks y.0 ++ y.1) (None, ts) x f refl)
 
 high_again : (high : Option Number) (rest : List Atom) → NoEllipsis rest → high_at (high_toks high ++ rest) ≡ Some (high, rest)
 unfolding high_at mark_at begins
@@ -86,12 +79,9 @@ next_spells = record {
 closing_takes : (ts : List Atom) (x : Closing × List Atom) → closing_at ts ≡ Some x → ts ≡ closing_toks x.0 ++ x.1
 unfolding closing_at
 closing_takes ts x e =
-    elim (chosen (begins marks.Comma ts) _ _ (Some x) e) [
-      | inl h ↦
-          let a = mark_step marks.Comma ts _ x h.1 in
-          along (λ (y : Closing × List Atom). ts ≡ closing_toks y.0 ++ y.1) (closings.Comma, a.0) x a.2 a.1
-      | inr h ↦ along (λ (y : Closing × List Atom). ts ≡ closing_toks y.0 ++ y.1) (closings.Plain, ts) x h.1 refl
-    ]
+    either (begins marks.Comma ts) _ _ (Some x) e
+    (λ go f. let a = mark_step marks.Comma ts _ x f in along (λ (y : Closing × List Atom). ts ≡ closing_toks y.0 ++ y.1) (closings.Comma, a.0) x a.2 a.1)
+    (λ stop f. along (λ (y : Closing × List Atom). ts ≡ closing_toks y.0 ++ y.1) (closings.Plain, ts) x f refl)
 
 -- behind the entries and what closes them the brace is left
 closing_again : (c : Closing) (rest : List Atom) → let ts = closing_toks c ++ mark marks.CloseBrace ∷ rest in (closing_at ts ≡ Some (c, mark marks.CloseBrace ∷ rest)) × (is_next ts ≡ false) × NoEllipsis ts
@@ -124,10 +114,7 @@ listed_again e es c rest =
 pub entries_take : (ts : List Atom) (x : Entries × List Atom) → entries_at ts ≡ Some x → ts ≡ entries_toks x.0 ++ x.1
 unfolding entries_at
 entries_take ts x e =
-    elim (chosen (is_labelled ts) _ _ (Some x) e) [
-      | inl h ↦ listed_takes ts x h.1
-      | inr h ↦ along (λ (y : Entries × List Atom). ts ≡ entries_toks y.0 ++ y.1) (entries.Empty, ts) x h.1 refl
-    ]
+    either (is_labelled ts) _ _ (Some x) e (λ go. listed_takes ts x) (λ stop f. along (λ (y : Entries × List Atom). ts ≡ entries_toks y.0 ++ y.1) (entries.Empty, ts) x f refl)
 
 listed_first : (e : Entry) (es : List Entry) (c : Closing) (rest : List Atom) → is_labelled (entries_toks (entries.Listed e es c) ++ rest) ≡ true
 listed_first e es c rest = ap is_labelled (sym (splice (entry_toks e) (flat_map next_entry_toks es) (closing_toks c) rest)) ∙ entry_first e (flat_map next_entry_toks es ++ (closing_toks c ++ rest))

@@ -2,13 +2,12 @@
 use Rattle.tsdl_parser.proofs.Steps.{Atom, List, Some, [], ap, append_assoc, arith, atoms_in, bytes_eq, false, length, length-append, refl, slice_get, slice_get_read, sym, true, ℕ, ◌++◌, ◌+◌, ◌<◌, ◌∙◌, ◌∷◌, ◌≡◌}
 use Rattle.std.specs.List.{list_all, list_any}
 use Rattle.std.proofs.Math.Seq.{get_or-append_seam}
-use Rattle.std.proofs.lemmas.List.Folds.{list_all-append}
+use Rattle.std.proofs.lemmas.{List.Folds.{list_all-append}, Bool.{not-false}}
 use Rattle.ctf_types.specs.Names.{unused_keywords}
 use Rattle.tsdl_grammar.specs.declared.atom.Atom.TheVariants as atoms
 use Rattle.tsdl_grammar.specs.Denotes.{is_read}
 use Rattle.tsdl_grammar.proofs.AtomsAhead.{few}
 use Rattle.tsdl_parser.specs.Keywords.{IsUnreadAt}
-use Rattle.std.proofs.lemmas.Bool.{not-false}
 
 unread_word : (a : Atom) → is_read a ≡ false → (w : List ℕ) × (a ≡ atoms.Word w) × (list_any (bytes_eq w) unused_keywords ≡ true)
 unread_word (atoms.Word w) e = (w, refl, not-false (list_any (bytes_eq w) unused_keywords) e)

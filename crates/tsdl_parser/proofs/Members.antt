@@ -1,18 +1,14 @@
 -- Types, members and structures are read as they are spelled. A `string` goes on where a brace follows, and a structure
 -- where `align` follows.
-use Rattle.tsdl_parser.proofs.Steps.{Atom, attr_at, attr_toks, many, Attribute, Entries, List, None, Number, Option, Some, [], align_at, align_toks, along, ap, append_assoc, arith, begins, braced, braced_at, bracket_at, bracket_toks, chosen, codes, count_at, entries_at, entries_toks, enum_at, false, flat_map, inl, inr, int_at, int_toks, is_open, keyword_at, kind_at, kind_toks, length, length-append, mark, mark_at, member_at, member_toks, names, number_at, number_toks, refl, signed_at, splice, splice_last, step, string_at, struct_at, struct_toks, sym, true, word, word_at, ◌++◌, ◌<◌, ◌∙◌, ◌∷◌, ◌≡◌}
+use Rattle.tsdl_parser.proofs.Steps.{Atom, attr_at, attr_toks, many, Attribute, Entries, List, None, Number, Option, Some, [], align_at, align_toks, along, ap, append_assoc, arith, begins, braced, braced_at, bracket_at, bracket_toks, either, codes, count_at, entries_at, entries_toks, enum_at, false, flat_map, int_at, int_toks, is_open, keyword_at, kind_at, kind_toks, length, length-append, mark, mark_at, member_at, member_toks, names, number_at, number_toks, refl, signed_at, splice, splice_last, step, string_at, struct_at, struct_toks, sym, true, word, word_at, ◌++◌, ◌<◌, ◌∙◌, ◌∷◌, ◌≡◌}
+use Rattle.tsdl_parser.proofs.Words.{mark_step, word_takes, keyword_step, number_takes, number_again, number_as, by_sign}
+use Rattle.tsdl_parser.proofs.{Repeated.{Spells, Anything, anywhere, many_take, many_again, braced_take, braced_again}, Attributes.attr_spells}
+use Rattle.tsdl_parser.proofs.Entries.{entries_take, entries_again}
 use Rattle.tsdl_grammar.specs.declared.token.Mark.TheVariants as marks
 use Rattle.tsdl_grammar.specs.declared.atom.Atom.TheVariants as atoms
-use Rattle.tsdl_grammar.specs.declared.tree.Kind.{Kind}
+use Rattle.tsdl_grammar.specs.declared.{tree.Kind.Kind, tree.Bracket.Bracket, tree.MemberTree.MemberTree, tree.Structure.Structure}
 use Rattle.tsdl_grammar.specs.declared.tree.Kind.TheVariants as kinds
-use Rattle.tsdl_grammar.specs.declared.tree.Bracket.{Bracket}
 use Rattle.tsdl_grammar.specs.declared.tree.Bracket.TheVariants as brackets
-use Rattle.tsdl_grammar.specs.declared.tree.MemberTree.{MemberTree}
-use Rattle.tsdl_grammar.specs.declared.tree.Structure.{Structure}
-use Rattle.tsdl_parser.proofs.Words.{mark_step, word_takes, keyword_step, number_takes, number_again, number_as, by_sign}
-use Rattle.tsdl_parser.proofs.Repeated.{Spells, Anything, anywhere, many_take, many_again, braced_take, braced_again}
-use Rattle.tsdl_parser.proofs.Attributes.{attr_spells}
-use Rattle.tsdl_parser.proofs.Entries.{entries_take, entries_again}
 
 -- ---- types
 
@@ -45,26 +41,17 @@ string_takes : (ts : List Atom) (x : Kind × List Atom) → string_at ts ≡ Som
 unfolding string_at
 string_takes ts x e =
     let a = keyword_step (codes "string") ts _ x e in
-    elim (chosen (begins marks.OpenBrace a.0) _ _ (Some x) a.2) [
-      | inl h ↦
-          let b = step (braced_at attr_at a.0) _ x (braced_take attr_at attr_toks attr_spells a.0) h.1 in
-          along (λ (y : Kind × List Atom). ts ≡ kind_toks y.0 ++ y.1) (kinds.Text (Some b.0.0), b.0.1) x b.2 (a.1 ∙ ap (λ (us : List Atom). word (codes "string") ∷ us) b.1)
-      | inr h ↦ along (λ (y : Kind × List Atom). ts ≡ kind_toks y.0 ++ y.1) (kinds.Text None, a.0) x h.1 a.1
-    ]
+    either (begins marks.OpenBrace a.0) _ _ (Some x) a.2 (λ go f.
+    let b = step (braced_at attr_at a.0) _ x (braced_take attr_at attr_toks attr_spells a.0) f in
+    along (λ (y : Kind × List Atom). ts ≡ kind_toks y.0 ++ y.1) (kinds.Text (Some b.0.0), b.0.1) x b.2 (a.1 ∙ ap (λ (us : List Atom). word (codes "string") ∷ us) b.1))
+    (λ stop f. along (λ (y : Kind × List Atom). ts ≡ kind_toks y.0 ++ y.1) (kinds.Text None, a.0) x f a.1)
 
 kind_takes : (ts : List Atom) (x : Kind × List Atom) → kind_at ts ≡ Some x → ts ≡ kind_toks x.0 ++ x.1
 unfolding kind_at
 kind_takes ts x e =
-    elim (chosen (names (codes "integer") ts) _ _ (Some x) e) [
-      | inl h ↦
-          let a = step (int_at ts) _ x (int_takes ts) h.1 in
-          along (λ (y : Kind × List Atom). ts ≡ kind_toks y.0 ++ y.1) (kinds.Integer a.0.0, a.0.1) x a.2 a.1
-      | inr h ↦
-          elim (chosen (names (codes "enum") ts) _ _ (Some x) h.1) [
-            | inl k ↦ enum_takes ts x k.1
-            | inr k ↦ string_takes ts x k.1
-          ]
-    ]
+    either (names (codes "integer") ts) _ _ (Some x) e
+    (λ go f. let a = step (int_at ts) _ x (int_takes ts) f in along (λ (y : Kind × List Atom). ts ≡ kind_toks y.0 ++ y.1) (kinds.Integer a.0.0, a.0.1) x a.2 a.1)
+    (λ stop f. either (names (codes "enum") ts) _ _ (Some x) f (λ go. enum_takes ts x) (λ stop. string_takes ts x))
 
 kind_again : (k : Kind) (rest : List Atom) → begins marks.OpenBrace rest ≡ false → kind_at (kind_toks k ++ rest) ≡ Some (k, rest)
 unfolding kind_at int_at names enum_at string_at keyword_at mark_at begins
@@ -106,8 +93,7 @@ bracket_takes ts x e =
     let a = mark_step marks.OpenBracket ts _ x e in
     let b = step (count_at a.0) _ x (count_takes a.0) a.2 in
     let c = mark_step marks.CloseBracket b.0.1 _ x b.2 in
-    along (λ (y : Bracket × List Atom). ts ≡ bracket_toks y.0 ++ y.1) (b.0.0, c.0) x c.2
-    (a.1 ∙ ap (λ (us : List Atom). mark marks.OpenBracket ∷ us) (b.1 ∙ ap (λ (us : List Atom). count_toks b.0.0 ++ us) c.1) ∙ bracket_parts b.0.0 c.0)
+    let parts = bracket_parts b.0.0 c.0 in cc
 
 bracket_again : (b : Bracket) (rest : List Atom) → bracket_at (bracket_toks b ++ rest) ≡ Some (b, rest)
 unfolding bracket_at mark_at
@@ -163,17 +149,15 @@ align_parts n rest = simp append_assoc
 align_takes : (ts : List Atom) (x : Option Number × List Atom) → align_at ts ≡ Some x → ts ≡ align_toks x.0 ++ x.1
 unfolding align_at
 align_takes ts x e =
-    elim (chosen (names (codes "align") ts) _ _ (Some x) e) [
-      | inl h ↦
-          let a = keyword_step (codes "align") ts _ x h.1 in
-          let b = mark_step marks.OpenParenthesis a.0 _ x a.2 in
-          let c = step (number_at b.0) _ x (number_takes b.0) b.2 in
-          let d = mark_step marks.CloseParenthesis c.0.1 _ x c.2 in
-          along (λ (y : Option Number × List Atom). ts ≡ align_toks y.0 ++ y.1) (Some c.0.0, d.0) x d.2
-          (a.1 ∙ ap (λ (us : List Atom). word (codes "align") ∷ us) (b.1 ∙ ap (λ (us : List Atom). mark marks.OpenParenthesis ∷ us) (c.1 ∙ ap (λ (us : List Atom). number_toks c.0.0 ++ us) d.1))
-          ∙ align_parts c.0.0 d.0)
-      | inr h ↦ along (λ (y : Option Number × List Atom). ts ≡ align_toks y.0 ++ y.1) (None, ts) x h.1 refl
-    ]
+    either (names (codes "align") ts) _ _ (Some x) e (λ go f.
+    let a = keyword_step (codes "align") ts _ x f in
+    let b = mark_step marks.OpenParenthesis a.0 _ x a.2 in
+    let c = step (number_at b.0) _ x (number_takes b.0) b.2 in
+    let d = mark_step marks.CloseParenthesis c.0.1 _ x c.2 in
+    along (λ (y : Option Number × List Atom). ts ≡ align_toks y.0 ++ y.1) (Some c.0.0, d.0) x d.2
+    (a.1 ∙ ap (λ (us : List Atom). word (codes "align") ∷ us) (b.1 ∙ ap (λ (us : List Atom). mark marks.OpenParenthesis ∷ us) (c.1 ∙ ap (λ (us : List Atom). number_toks c.0.0 ++ us) d.1))
+    ∙ align_parts c.0.0 d.0))
+    (λ stop f. along (λ (y : Option Number × List Atom). ts ≡ align_toks y.0 ++ y.1) (None, ts) x f refl)
 
 align_again : (align : Option Number) (rest : List Atom) → names (codes "align") rest ≡ false → align_at (align_toks align ++ rest) ≡ Some (align, rest)
 unfolding align_at names keyword_at mark_at

@@ -1,10 +1,10 @@
 -- Items one after the other: what holds of the reading and the spelling of one item holds of all of them, and what a
 -- loop over them keeps.
-use Rattle.tsdl_parser.proofs.Steps.{Atom, Bool, Fails, List, None, Option, Shortens, Some, Unread, [], along, ap, append-nil, append_assoc, arith, begins, bind_some, braced, braced_at, chosen, cond, false, flat_map, inl, inr, is_open, length, length-append, many, many_at, mark, mark_at, refl, same_steps, step, suc, sym, true, zero, ℕ, ◌++◌, ◌<◌, ◌>>=◌, ◌∙◌, ◌∷◌, ◌≡◌, ◌≤◌}
+use Rattle.tsdl_parser.proofs.Steps.{Atom, Bool, Fails, List, None, Option, Shortens, Some, Unread, [], along, ap, append-nil, append_assoc, arith, begins, bind_some, braced, braced_at, either, cond, false, flat_map, is_open, length, length-append, many, many_at, mark, mark_at, refl, same_steps, step, suc, sym, true, zero, ℕ, ◌++◌, ◌<◌, ◌>>=◌, ◌∙◌, ◌∷◌, ◌≡◌, ◌≤◌}
+use Rattle.tsdl_parser.proofs.Words.{mark_step}
 use Rattle.std.proofs.lemmas.List.Concat.{flat_map-cons}
 use Rattle.tsdl_grammar.specs.declared.token.Mark.TheVariants as marks
 use Rattle.tsdl_parser.specs.declared.halt.Unread.TheVariants as unread
-use Rattle.tsdl_parser.proofs.Words.{mark_step}
 
 -- an item is read as it is spelled: what is taken was spelled, and what was spelled is taken again, where the atoms
 -- behind it end it
@@ -81,20 +81,16 @@ module _ {A : Type 0} (starts : List Atom → Bool) (item : List Atom → Option
   pub many_take : (n : ℕ) (ts : List Atom) (x : List A × List Atom) → many_at starts item n ts ≡ Some x → (ts ≡ flat_map spelled x.0 ++ x.1) × (starts x.1 ≡ false)
   unfolding many_at
   many_take zero ts x e =
-      elim (chosen (starts ts) None (Some ([], ts)) (Some x) e) [
-        | inl h ↦ absurd (let f = h.1 in cc)
-        | inr h ↦ along (λ (y : List A × List Atom). (ts ≡ flat_map spelled y.0 ++ y.1) × (starts y.1 ≡ false)) ([], ts) x h.1 (refl, h.0)
-      ]
+      either (starts ts) None (Some ([], ts)) (Some x) e (λ go f. absurd cc)
+      (λ stop f. along (λ (y : List A × List Atom). (ts ≡ flat_map spelled y.0 ++ y.1) × (starts y.1 ≡ false)) ([], ts) x f (refl, stop))
   many_take (suc n) ts x e =
-      elim (chosen (starts ts) (item ts >>= λ y. many_at starts item n y.1 >>= λ ys. Some (y.0 ∷ ys.0, ys.1)) (Some ([], ts)) (Some x) e) [
-        | inl h ↦
-            let a = step (item ts) (λ y. many_at starts item n y.1 >>= λ ys. Some (y.0 ∷ ys.0, ys.1)) x (s.takes ts) h.1 in
-            let b = bind_some (many_at starts item n a.0.1) (λ ys. Some (a.0.0 ∷ ys.0, ys.1)) x a.2 in
-            let others = many_take n a.0.1 b.0 b.1 in
-            let whole : ts ≡ flat_map spelled (a.0.0 ∷ b.0.0) ++ b.0.1 = a.1 ∙ ap (λ (us : List Atom). spelled a.0.0 ++ us) others.0 ∙ sym (append_assoc (spelled a.0.0) (flat_map spelled b.0.0) b.0.1) ∙ ap (λ (us : List Atom). us ++ b.0.1) (sym (flat_map-cons spelled a.0.0 b.0.0)) in
-            along (λ (y : List A × List Atom). (ts ≡ flat_map spelled y.0 ++ y.1) × (starts y.1 ≡ false)) (a.0.0 ∷ b.0.0, b.0.1) x b.2 (whole, others.1)
-        | inr h ↦ along (λ (y : List A × List Atom). (ts ≡ flat_map spelled y.0 ++ y.1) × (starts y.1 ≡ false)) ([], ts) x h.1 (refl, h.0)
-      ]
+      either (starts ts) (item ts >>= λ y. many_at starts item n y.1 >>= λ ys. Some (y.0 ∷ ys.0, ys.1)) (Some ([], ts)) (Some x) e (λ go f.
+      let a = step (item ts) (λ y. many_at starts item n y.1 >>= λ ys. Some (y.0 ∷ ys.0, ys.1)) x (s.takes ts) f in
+      let b = bind_some (many_at starts item n a.0.1) (λ ys. Some (a.0.0 ∷ ys.0, ys.1)) x a.2 in
+      let others = many_take n a.0.1 b.0 b.1 in
+      let whole : ts ≡ flat_map spelled (a.0.0 ∷ b.0.0) ++ b.0.1 = a.1 ∙ ap (λ (us : List Atom). spelled a.0.0 ++ us) others.0 ∙ sym (append_assoc (spelled a.0.0) (flat_map spelled b.0.0) b.0.1) ∙ ap (λ (us : List Atom). us ++ b.0.1) (sym (flat_map-cons spelled a.0.0 b.0.0)) in
+      along (λ (y : List A × List Atom). (ts ≡ flat_map spelled y.0 ++ y.1) × (starts y.1 ≡ false)) (a.0.0 ∷ b.0.0, b.0.1) x b.2 (whole, others.1))
+      (λ stop f. along (λ (y : List A × List Atom). (ts ≡ flat_map spelled y.0 ++ y.1) × (starts y.1 ≡ false)) ([], ts) x f (refl, stop))
 
   pub all_end : (xs : List A) (rest : List Atom) → Ends rest → Ends (flat_map spelled xs ++ rest)
   all_end [] rest h = h

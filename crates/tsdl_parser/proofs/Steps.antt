@@ -1,20 +1,14 @@
 -- Rules that are read one after the other, and the words of trees, atoms and rules that the proofs speak of.
-pub use Rattle.std.proofs.Common.{Bool, List, None, Option, Some, [], ap, append-nil, append_assoc, arith, bytes_eq, codes, cond, false, flat_map, inl, inr, length, length-append, not, refl, rules, slice_get, subst, suc, sym, true, zero, ℕ, ◌++◌, ◌+◌, ◌<◌, ◌∙◌, ◌∷◌, ◌≡◌, ◌≤◌, ◌⊎◌}
-pub use Rattle.std.proofs.lemmas.Option.{cond_some, slice_get_read}
-pub use Rattle.std.proofs.lemmas.Result.{err_from_is_err_and}
+pub use Rattle.std.proofs.Common.{Bool, List, None, Option, Some, [], ap, append-nil, append_assoc, arith, bytes_eq, codes, cond, false, flat_map, length, length-append, not, refl, rules, slice_get, subst, suc, sym, true, zero, ℕ, ◌++◌, ◌+◌, ◌<◌, ◌∙◌, ◌∷◌, ◌≡◌, ◌≤◌, ◌⊎◌}
+pub use Rattle.std.proofs.lemmas.{Option.{cond_some, slice_get_read}, Result.err_from_is_err_and}
 pub use Rattle.tsdl_grammar.specs.Fronts.{atoms_in, meant, shown}
 pub use Rattle.tsdl_grammar.specs.Spelling.{align_toks, attr_toks, block_and_semicolon, block_toks, braced, bracket_toks, closing_toks, dotted, entries_toks, entry_toks, fact_toks, high_toks, int_toks, item_toks, items_toks, kind_toks, label_toks, mark, member_toks, name_toks, named_fact_toks, next_entry_toks, number_toks, scope_toks, struct_toks, text_toks, value_toks, word}
 pub use Rattle.tsdl_grammar.specs.Steps.{◌>>=◌}
-pub use Rattle.tsdl_grammar.specs.declared.atom.Atom.{Atom}
-pub use Rattle.tsdl_grammar.specs.declared.tree.Attribute.{Attribute}
-pub use Rattle.tsdl_grammar.specs.declared.tree.Entries.{Entries}
-pub use Rattle.tsdl_grammar.specs.declared.tree.Name.{Name}
-pub use Rattle.tsdl_grammar.specs.declared.tree.Number.{Number}
-pub use Rattle.tsdl_parser.specs.Parsing.{Fails, Shortens, is_mark, is_open, is_word, many}
+pub use Rattle.tsdl_grammar.specs.declared.{atom.Atom.Atom, tree.Attribute.Attribute, tree.Entries.Entries, tree.Name.Name, tree.Number.Number}
+pub use Rattle.tsdl_parser.specs.{Parsing.{Fails, Shortens, is_mark, is_open, is_word, many}, Rules.{all_blocks_at, has_more, starts}}
 unfoldable pub use Rattle.tsdl_parser.specs.Parsing.{begins, braced_at, keyword_at, many_at, mark_at, names, number_at, signed_at, word_at}
-pub use Rattle.tsdl_parser.specs.declared.halt.Unread.{Unread}
-pub use Rattle.tsdl_parser.specs.Rules.{all_blocks_at, has_more, starts}
 unfoldable pub use Rattle.tsdl_parser.specs.Rules.{align_at, attr_at, attr_behind, block_at, bracket_at, closing_at, count_at, dotted_at, ended_block_at, entries_at, entry_at, enum_at, fact_at, high_at, int_at, is_labelled, is_next, item_at, items_at, kind_at, label_at, listed_at, member_at, name_at, named_fact_at, next_entry_at, scope_behind, string_at, struct_at, value_at}
+pub use Rattle.tsdl_parser.specs.declared.halt.Unread.{Unread}
 pub use Rattle.tsdl_grammar.proofs.Inversion.{bind_some}
 
 pub some_is : {A : Type 0} (p x : A) → Some p ≡ Some x → p ≡ x
@@ -28,10 +22,10 @@ along P p x e h = subst P (some_is p x e) h
 pub step : {A B : Type 0} {P : A → Type 0} (o : Option A) (f : A → Option B) (y : B) → ((x : A) → o ≡ Some x → P x) → (o >>= f) ≡ Some y → (x : A) × P x × (f x ≡ Some y)
 step o f y says e = let a = bind_some o f y e in (a.0, says a.0 a.1, a.2)
 
--- which way a test went
-pub chosen : {A : Type 0} (b : Bool) (x y z : A) → cond b x y ≡ z → ((b ≡ true) × (x ≡ z)) ⊎ ((b ≡ false) × (y ≡ z))
-chosen true x y z e = inl (refl, e)
-chosen false x y z e = inr (refl, e)
+-- what both ways of a test lead to
+pub either : {A P : Type 0} (b : Bool) (x y z : A) → cond b x y ≡ z → (b ≡ true → x ≡ z → P) → (b ≡ false → y ≡ z → P) → P
+either true x y z e here there = here refl e
+either false x y z e here there = there refl e
 
 -- steps that agree wherever they are taken
 pub same_steps : {A B : Type 0} (o : Option A) (f g : A → Option B) → ((x : A) → o ≡ Some x → f x ≡ g x) → (o >>= f) ≡ (o >>= g)

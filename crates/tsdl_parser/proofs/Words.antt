@@ -3,10 +3,9 @@ use Rattle.tsdl_parser.proofs.Steps.{Atom, List, None, Number, Option, Some, [],
 use denote.Enum.Bare.{same_true}
 use Rattle.std.proofs.lemmas.Slice.Eq.{bytes_eq-Decides}
 use Rattle.tsdl_grammar.specs.contracts.token.Mark.{the_type}
-use Rattle.tsdl_grammar.specs.declared.token.Mark.{Mark}
+use Rattle.tsdl_grammar.specs.declared.{token.Mark.Mark, tree.Sign.TheVariants.{Plus, Minus}}
 use Rattle.tsdl_grammar.specs.declared.token.Mark.TheVariants as marks
 use Rattle.tsdl_grammar.specs.declared.atom.Atom.TheVariants as atoms
-use Rattle.tsdl_grammar.specs.declared.tree.Sign.TheVariants.{Plus, Minus}
 
 mark_is : (m : Mark) (a : Atom) → is_mark m a ≡ true → a ≡ mark m
 mark_is m (atoms.Mark n) e = ap (λ (x : Mark). mark x) (same_true the_type tt n m e)
@@ -23,7 +22,7 @@ mark_step m ts f y e = step (mark_at m ts) f y (mark_takes m ts) e
 
 pub word_takes : (ts : List Atom) (x : List ℕ × List Atom) → word_at ts ≡ Some x → ts ≡ word x.0 ∷ x.1
 unfolding word_at
-word_takes (atoms.Word w ∷ ts) x e = along (λ (y : List ℕ × List Atom). (word w ∷ ts) ≡ word y.0 ∷ y.1) (w, ts) x e refl
+word_takes (atoms.Word w ∷ ts) x e = cc
 word_takes _ x e = absurd cc
 
 word_is : (keyword : List ℕ) (a : Atom) → is_word keyword a ≡ true → a ≡ word keyword

@@ -1,7 +1,6 @@
 -- What is said of a text that stops spelling blocks: that it does. No clause says where it stops, or what was expected there.
 use Rattle.std.specs.Prelude.{◌≡◌, Result, Ok, Err}
-use Rattle.tsdl_parser.specs.declared.halt.Halt.{Halt}
-use Rattle.tsdl_parser.specs.declared.halt.Unread.{Unread}
+use Rattle.tsdl_parser.specs.declared.{halt.Halt.Halt, halt.Unread.Unread}
 use Rattle.tsdl_parser.specs.declared.halt.Unread.TheVariants as unread
 
 -- said of a text that stops, and not where memory ran out

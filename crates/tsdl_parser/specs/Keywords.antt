@@ -1,6 +1,5 @@
 -- Keywords of TSDL for which nothing here has a use, among the atoms of a text.
-use Rattle.std.specs.Prelude.{◌≡◌, ℕ, true, List, Some, slice_get, bytes_eq}
-use Rattle.std.specs.List.{list_any}
+use Rattle.std.specs.{Prelude.{◌≡◌, ℕ, true, List, Some, slice_get, bytes_eq}, List.list_any}
 use Rattle.ctf_types.specs.Names.{unused_keywords}
 use Rattle.tsdl_grammar.specs.declared.atom.Atom.{Atom}
 use Rattle.tsdl_grammar.specs.declared.atom.Atom.TheVariants as atoms

@@ -2,15 +2,10 @@
 -- the rules of the grammar are made of (CTF 1.8.3, appendix C). A rule that doesn't fit has no case.
 use Rattle.std.specs.Prelude.{◌≡◌, ℕ, zero, suc, ◌<◌, Bool, false, not, if◌then◌else◌, List, [], ◌∷◌, length, Option, Some, None, Result, Ok, Err, bytes_eq}
 use denote.Enum.Bare.{sameb as is_same}
-use Rattle.tsdl_grammar.specs.contracts.token.Mark.{the_type as of_marks}
-use Rattle.tsdl_grammar.specs.declared.token.Mark.{Mark}
+use Rattle.tsdl_grammar.specs.{contracts.token.Mark.{the_type as of_marks}, Steps.{◌>>=◌}}
+use Rattle.tsdl_grammar.specs.declared.{token.Mark.Mark, atom.Atom.Atom, tree.Sign.Sign, tree.Sign.TheVariants.{Plus, Minus}, tree.Number.Number}
 use Rattle.tsdl_grammar.specs.declared.token.Mark.TheVariants as marks
-use Rattle.tsdl_grammar.specs.declared.atom.Atom.{Atom}
 use Rattle.tsdl_grammar.specs.declared.atom.Atom.TheVariants as atoms
-use Rattle.tsdl_grammar.specs.declared.tree.Sign.{Sign}
-use Rattle.tsdl_grammar.specs.declared.tree.Sign.TheVariants.{Plus, Minus}
-use Rattle.tsdl_grammar.specs.declared.tree.Number.{Number}
-use Rattle.tsdl_grammar.specs.Steps.{◌>>=◌}
 use Rattle.tsdl_parser.specs.declared.halt.Unread.{Unread}
 pub use Rattle.tsdl_parser.specs.Halting.{IfHalted}
 

@@ -2,36 +2,22 @@
 -- structures, scopes, environment entries and blocks, and a whole text's blocks (CTF 1.8.3, section 7 and appendix C).
 use Rattle.std.specs.Prelude.{ℕ, List, ◌∷◌, Option, Some, Bool, true, false, ◌&&◌, if◌then◌else◌, [], None, codes}
 use Rattle.tsdl_grammar.specs.declared.token.Mark.TheVariants as marks
-pub use Rattle.tsdl_grammar.specs.declared.atom.Atom.{Atom}
+pub use Rattle.tsdl_grammar.specs.declared.{atom.Atom.Atom, tree.Block.Block}
 use Rattle.tsdl_grammar.specs.declared.atom.Atom.TheVariants as atoms
-use Rattle.tsdl_grammar.specs.declared.tree.Name.{Name}
-use Rattle.tsdl_grammar.specs.declared.tree.Value.{Value}
+use Rattle.tsdl_grammar.specs.declared.{tree.Name.Name, tree.Value.Value, tree.Attribute.Attribute, tree.Number.Number, tree.Label.Label}
+use Rattle.tsdl_grammar.specs.declared.{tree.Label.TheVariants.{Quoted, Bare}, tree.Entry.Entry, tree.Closing.Closing, tree.Entries.Entries, tree.Kind.Kind}
+use Rattle.tsdl_grammar.specs.declared.{tree.Bracket.Bracket, tree.MemberTree.MemberTree, tree.Structure.Structure, tree.Scope.Scope, tree.Item.Item, tree.Fact.Fact}
+use Rattle.tsdl_grammar.specs.declared.tree.NamedFact.{NamedFact}
 use Rattle.tsdl_grammar.specs.declared.tree.Value.TheVariants as values
-use Rattle.tsdl_grammar.specs.declared.tree.Attribute.{Attribute}
 use Rattle.tsdl_grammar.specs.Steps.{◌>>=◌}
 pub use Rattle.tsdl_grammar.specs.Fronts.{shown}
 pub use Rattle.tsdl_parser.specs.Parsing.{Gives, IfHalted, Shortens, begins, mark_at, word_at, number_at, many, braced_at, is_mark, names, keyword_at, is_open}
-use Rattle.tsdl_grammar.specs.declared.tree.Number.{Number}
-use Rattle.tsdl_grammar.specs.declared.tree.Label.{Label}
-use Rattle.tsdl_grammar.specs.declared.tree.Label.TheVariants.{Quoted, Bare}
-use Rattle.tsdl_grammar.specs.declared.tree.Entry.{Entry}
-use Rattle.tsdl_grammar.specs.declared.tree.Closing.{Closing}
 use Rattle.tsdl_grammar.specs.declared.tree.Closing.TheVariants as closings
-use Rattle.tsdl_grammar.specs.declared.tree.Entries.{Entries}
 use Rattle.tsdl_grammar.specs.declared.tree.Entries.TheVariants as entries
-use Rattle.tsdl_grammar.specs.declared.tree.Kind.{Kind}
 use Rattle.tsdl_grammar.specs.declared.tree.Kind.TheVariants as kinds
-use Rattle.tsdl_grammar.specs.declared.tree.Bracket.{Bracket}
 use Rattle.tsdl_grammar.specs.declared.tree.Bracket.TheVariants as brackets
-use Rattle.tsdl_grammar.specs.declared.tree.MemberTree.{MemberTree}
-use Rattle.tsdl_grammar.specs.declared.tree.Structure.{Structure}
-use Rattle.tsdl_grammar.specs.declared.tree.Scope.{Scope}
-use Rattle.tsdl_grammar.specs.declared.tree.Item.{Item}
 use Rattle.tsdl_grammar.specs.declared.tree.Item.TheVariants as items
-use Rattle.tsdl_grammar.specs.declared.tree.Fact.{Fact}
 use Rattle.tsdl_grammar.specs.declared.tree.Fact.TheVariants as facts
-use Rattle.tsdl_grammar.specs.declared.tree.NamedFact.{NamedFact}
-pub use Rattle.tsdl_grammar.specs.declared.tree.Block.{Block}
 use Rattle.tsdl_grammar.specs.declared.tree.Block.TheVariants as blocks
 use Rattle.tsdl_parser.specs.declared.repetition.Start.{Start}
 use Rattle.tsdl_parser.specs.declared.repetition.Start.TheVariants as start

@@ -1,9 +1,7 @@
 //! The keywords of TSDL that this project doesn't read.
 
-ghost use Rattle.std.specs.Prelude.{◌≡◌, ◌<◌, ◌↔◌, not, true, length, take, slice_get, IsNone, IfSome};
-ghost use Rattle.std.specs.List.{list_all};
-ghost use Rattle.tsdl_grammar.specs.Denotes.{is_read};
-ghost use Rattle.tsdl_grammar.specs.Fronts.{atoms_in, meant};
+ghost use Rattle.std.specs.{Prelude.{◌≡◌, ◌<◌, ◌↔◌, not, true, length, take, slice_get, IsNone, IfSome}, List.list_all};
+ghost use Rattle.tsdl_grammar.specs.{Denotes.is_read, Fronts.{atoms_in, meant}};
 ghost use Rattle.tsdl_parser.specs.Keywords.{IsUnreadAt};
 
 use ctf_types::is_unused_keyword;
