@@ -64,14 +64,10 @@ gap_blank places.Apart nexts.Leaning d = refl
 gap_blank p n d = refl
 
 -- no byte of a name, and no `=`
-record Behind (bytes : List ℕ) : Type 0 where
-  no_name : prefix_len is_name_byte bytes ≡ 0
-  no_equals : eqb (get_or bytes 0 0) 61 ≡ false
-
-apart : (d : Depth) (rest : List Atom) → Behind (laid d places.Apart rest)
-apart d [] = record { no_name = refl; no_equals = refl }
-apart d (atoms.Mark marks.CloseBrace ∷ rest) = record { no_name = refl; no_equals = refl }
-apart d (a ∷ rest) = record { no_name = refl; no_equals = refl }
+apart : (d : Depth) (rest : List Atom) → let bytes = laid d places.Apart rest in (prefix_len is_name_byte bytes ≡ 0) × (eqb (get_or bytes 0 0) 61 ≡ false)
+apart d [] = (refl, refl)
+apart d (atoms.Mark marks.CloseBrace ∷ rest) = (refl, refl)
+apart d (a ∷ rest) = (refl, refl)
 
 -- no second dot behind a dot
 no_dot : (d : Depth) (rest : List Atom) → AreWritable rest → eqb (get_or (laid d places.Dotted rest) 0 0) 46 ≡ false
@@ -94,7 +90,7 @@ mark_stands marks.OpenParenthesis d rest h s = mark_steps.open_parenthesis _ _ s
 mark_stands marks.CloseParenthesis d rest h s = mark_steps.close_parenthesis _ _ s
 mark_stands marks.Semicolon d rest h s = mark_steps.semicolon _ _ s
 mark_stands marks.Comma d rest h s = mark_steps.comma _ _ s
-mark_stands marks.Colon d rest h s = mark_steps.colon _ _ (apart d rest).no_equals s
+mark_stands marks.Colon d rest h s = mark_steps.colon _ _ (apart d rest).1 s
 mark_stands marks.Equals d rest h s = mark_steps.equals _ _ s
 mark_stands marks.Minus d rest h s = mark_steps.minus _ _ s
 mark_stands marks.Plus d rest h s = mark_steps.plus _ _ s
@@ -104,8 +100,8 @@ mark_stands marks.Ellipsis d rest h s = mark_steps.ellipsis _ _ s
 
 atom_stands : (a : Atom) (d : Depth) (rest : List Atom) → IsWritable a → IsString a → AreWritable rest → Spells (laid (atom_behind a d).0 (atom_behind a d).1 rest) rest
     → Spells (atom_text a ++ laid (atom_behind a d).0 (atom_behind a d).1 rest) (a ∷ rest)
-atom_stands (atoms.Word w) d rest h t k s = words.word w (laid d places.Apart rest) rest (is_name w h.identifier) (apart d rest).no_name s
-atom_stands (atoms.Number n) d rest h t k s = numbers.number n (laid d places.Apart rest) rest h (apart d rest).no_name s
+atom_stands (atoms.Word w) d rest h t k s = words.word w (laid d places.Apart rest) rest (is_name w h.identifier) (apart d rest).0 s
+atom_stands (atoms.Number n) d rest h t k s = numbers.number n (laid d places.Apart rest) rest h (apart d rest).0 s
 atom_stands (atoms.Text x) d rest h t k s = texts.string x (laid d places.Apart rest) rest t s
 atom_stands (atoms.Mark m) d rest h t k s = mark_stands m d rest k s
 atom_stands atoms.TooLarge d rest h t k s = absurd h

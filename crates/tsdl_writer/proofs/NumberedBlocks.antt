@@ -106,6 +106,6 @@ pub each_with : (events : List (ℕ × Event)) (n : ℕ) (ss : List StreamType) 
 unfolding streams_of
 each_with events n [] h = refl
 each_with events n (s ∷ ss) h =
-    let own = h n (omega arith) ∙ simp (picked-append, picked_own, picked_none n (n + 1) ss (omega arith), append-nil) in
+    let own : denotes.events_of n events ≡ meta.events_of 0 s.events = h n (omega arith) ∙ simp (picked-append, picked_own, picked_none n (n + 1) ss (omega arith), append-nil) in
     let rest = each_with events (n + 1) ss (λ k le. h k (omega arith) ∙ simp (picked-append, picked_other k n (meta.events_of 0 s.events) (eqb-apart n k (omega arith)).0)) in
     rw (with-own events n s own, rest) refl

@@ -1,5 +1,5 @@
 -- Calls that print, one behind the other, and loops of such calls.
-pub use Rattle.tsdl_writer.proofs.TreeWords.{All, All-more, Atom, Auto, Base, Begins, Bool, ClockType, Config, Denotes, Dyn, Ends, EnvironmentEntry, EventType, Int, IntType, IsHeld, IsHeldClock, IsHeldValue, List, Mapping, MemberType, Name, None, OnOk, Option, Printer, Prints, Result, SFits, Some, Static, StreamType, [], add-one, align_toks, all_event_blocks, ap, append-nil, append_assoc, arith, array_member, attributes, block_and_semicolon, blocks_of, braced, bracket_toks, cases_Bool, chain_of, clock_block, clock_numbers, closing, codes, context_numbers, count_bracket, drop, drop_all, drop_more, entries_toks, entry_toks, entry_tree, entry_trees, environment_blocks, event_block, event_blocks, event_header_members, false, false≢true, flag_word, flat_map, flat_map-append, get_or, header_members, high_toks, inl, inr, int_le, int_toks, integer_attributes, ints, is_none, item_toks, kind_toks, kind_tree, length, length_member, length_name, length_type, map, member_toks, member_toks_of, member_tree, member_trees, metadata_of, name_toks, named_fact_toks, named_fact_tree, natural_item, natural_number, next_entry_toks, number_member, number_toks, one_word, option_map, optional_items, order_word, refl, rules, scope_items, slice_get, stream_block, stream_blocks, subst, suc, sym, take, take_all, take_rest, text_item, text_toks, to_z-of_z, token_toks, trace_block, two_words, uuid_item, uuid_member, w128, w64, whole_item, whole_number, word_item, zero, ℕ, ◌++◌, ◌+◌, ◌-◌, ◌<◌, ◌==◌, ◌∙◌, ◌∷◌, ◌≡◌, ◌≤◌}
+pub use Rattle.tsdl_writer.proofs.TreeWords.{All, All-more, Atom, Auto, Base, Begins, Bool, ClockType, Config, Denotes, Dyn, Ends, EnvironmentEntry, EventType, Int, IntType, IsHeld, IsHeldClock, IsHeldValue, List, Mapping, MemberType, Name, None, OnOk, Option, Printer, Prints, Result, SFits, Some, Static, StreamType, [], add-one, align_toks, all_event_blocks, ap, append-nil, append_assoc, arith, array_member, attributes, block_and_semicolon, blocks_of, braced, bracket_toks, cases_Bool, chain_of, clock_block, clock_numbers, closing, codes, context_numbers, count_bracket, drop, drop_all, drop_more, entries_toks, entry_toks, entry_tree, entry_trees, environment_blocks, event_block, event_blocks, event_header_members, false, false≢true, flag_word, flat_map, flat_map-append, get_or, header_members, high_toks, inl, inr, int_le, int_toks, integer_attributes, ints, is_none, item_toks, kind_toks, kind_tree, length, length_member, length_name, length_type, map, member_toks, member_toks_of, member_tree, member_trees, metadata_of, name_toks, named_fact_toks, named_fact_tree, natural_item, natural_number, next_entry_toks, number_member, number_toks, one_word, option_map, optional_items, order_word, refl, rules, scope_items, slice_get, stream_block, stream_blocks, subst, suc, sym, take, take_all, take_rest, text_item, text_toks, to_z-of_z, token_toks, trace_block, two_words, uuid_item, uuid_member, w128, w64, whole_item, whole_number, word_item, true, zero, ℕ, ◌++◌, ◌+◌, ◌-◌, ◌<◌, ◌==◌, ◌∙◌, ◌∷◌, ◌≡◌, ◌≤◌}
 use Rattle.std.proofs.lemmas.Result.{on_ok_weaker}
 use Rattle.tsdl_grammar.specs.declared.atom.Atom.TheVariants as atoms
 use Rattle.tsdl_grammar.specs.declared.token.Mark.TheVariants as marks
@@ -66,19 +66,17 @@ pub entry_groups : {p : Printer} {text : List ℕ} (label : List ℕ) (low high 
     → Ends p (atoms.Text label ∷ atoms.Mark marks.Equals ∷ low ++ high ++ rest) text
 entry_groups label low high rest e = simp append_assoc (rw (append-nil low) at e)
 
--- two lists that have no item together have none
-pub none_in : {A : Type 0} (xs ys : List A) → xs ++ ys ≡ [] → (xs ≡ []) × (ys ≡ [])
-none_in [] ys e = (refl, e)
-none_in (x ∷ xs) ys e = absurd cc
+-- features without a member are off
+pub three_off : (a b c : Option IntType) → number_member (codes "magic") a ++ uuid_member b ++ number_member (codes "stream_id") c ≡ [] → (is_none a ≡ true) × (is_none b ≡ true) × (is_none c ≡ true)
+three_off None None None e = (refl, refl, refl)
+three_off None None (Some c) e = absurd cc
+three_off None (Some b) c e = absurd cc
+three_off (Some a) b c e = absurd cc
 
--- a feature that is on has its member
-pub number_stands : (name : List ℕ) (field : Option IntType) → is_none field ≡ false → number_member name field ≡ [] → ⊥
-number_stands name None off e = absurd cc
-number_stands name (Some t) off e = cc
-
-pub uuid_stands : (field : Option IntType) → is_none field ≡ false → uuid_member field ≡ [] → ⊥
-uuid_stands None off e = absurd cc
-uuid_stands (Some t) off e = cc
+pub two_off : (a b : Option IntType) → number_member (codes "id") a ++ number_member (codes "timestamp") b ≡ [] → (is_none a ≡ true) × (is_none b ≡ true)
+two_off None None e = (refl, refl)
+two_off None (Some b) e = absurd cc
+two_off (Some a) b e = absurd cc
 
 -- a block of three lists of items
 pub block : {p : Printer} {text : List ℕ} (w : List ℕ) (xs ys zs : List Item) (rest : List Atom)

@@ -1,8 +1,8 @@
 -- The words of configurations, trees and tokens that the proofs speak of, and the lemmas that many of them take.
-pub use Rattle.std.proofs.Common.{All, Bool, Contains, IfSome, IsUtf8, List, None, OnOk, Option, Result, SFits, Some, [], add-one, ap, append-nil, append_assoc, arith, bytes_eq, codes, drop, eq-eqb, eqb, false, flat_map, get_or, inl, inr, int_le, is_none, le-leb, length, length-append, lt-ltb, ltb, map, max, mod-eq_of_lt, mul-le-mul_left, mul_comm, nat_le, nat_lt, negsuc, not, option_map, pos, refl, rules, slice_get, subst, suc, sym, take, take_all, to_z-of_z, true, w64, zero, ℕ, ℤ, ◌%◌, ◌&&◌, ◌*◌, ◌++◌, ◌+◌, ◌-◌, ◌<◌, ◌==◌, ◌^◌, ◌||◌, ◌∙◌, ◌∷◌, ◌≡◌, ◌≤ℤ◌, ◌≤◌}
+pub use Rattle.std.proofs.Common.{All, Bool, Contains, IfSome, IsUtf8, List, None, OnOk, Option, Result, SFits, Some, [], add-one, ap, append-nil, append_assoc, arith, bytes_eq, codes, drop, eq-eqb, eqb, false, flat_map, get_or, inl, inr, int_le, is_none, le-leb, length, length-append, lt-ltb, ltb, map, max, mod-eq_of_lt, nat_le, nat_lt, negsuc, not, option_map, pos, refl, rules, slice_get, subst, suc, sym, take, take_all, to_z-of_z, true, w64, zero, ℕ, ℤ, ◌%◌, ◌&&◌, ◌*◌, ◌++◌, ◌+◌, ◌-◌, ◌<◌, ◌==◌, ◌^◌, ◌||◌, ◌∙◌, ◌∷◌, ◌≡◌, ◌≤ℤ◌, ◌≤◌}
 pub use Rattle.ctf_types.proofs.{AllowedMembers.{metadata_name_of_plain, no_members_shown, struct_is_allowed}, AllowedMetadata.{metadata_is_allowed, struct_with-members}}
 pub use Rattle.ctf_types.specs.Allowed.{HasBits, IsByteType, IsIdentity, IsLeaf, IsMagic, IsMappedTo, IsMetadata, IsNest, IsRange, IsStream, IsStruct, IsUnsigned}
-pub use Rattle.ctf_types.specs.AllowedConfig.{AreConfigMembers, IsClockType, IsConfig, IsConfigMember, IsConfigStruct, IsEventType, IsStreamType}
+pub use Rattle.ctf_types.specs.AllowedConfig.{IsClockType, IsConfig, IsConfigMember, IsConfigStruct, IsEventType, IsStreamType}
 pub use Rattle.ctf_types.specs.{Chain.{ByteString, Labelled, Leaf, Number}, FieldTypes.chain_of, Members.names_in}
 pub use Rattle.ctf_types.specs.MetadataOf.{context_numbers, event_header_members, header_members, number_member, struct_with, uuid_member}
 pub use Rattle.ctf_types.specs.{Names.{IsMetadataName, IsPlainName, is_digit, is_letter, unused_keywords}, Shown.{length_name, length_type, shown_struct}}

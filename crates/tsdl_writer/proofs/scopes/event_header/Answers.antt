@@ -1,15 +1,13 @@
-use Rattle.tsdl_writer.proofs.Printing.{refl, codes, event_header_members, false, is_none, member_toks_of, number_member, rules, two_words, ◌≡◌, last, scoped, none_in, number_stands, groups}
+use Rattle.tsdl_writer.proofs.Printing.{refl, codes, event_header_members, false, is_none, member_toks_of, number_member, rules, two_words, ◌≡◌, last, scoped, two_off, groups}
 use Rattle.tsdl_writer.proofs.scopes.event_header.Goals as goal
 use Rattle.tsdl_writer.proofs.scopes.event_header.Goals.{else-is_none-via-then-is_none+else-is_none-2, else-is_none-via-else-is_none}
 
 pub returns : goal.returns
 returns c = last c.close.result c.close.ensures (λ one rest text e.
     let f = c.args.features.now in
-    let id = number_member (codes "id") f.id in let timestamp = number_member (codes "timestamp") f.timestamp in
     scoped (two_words (codes "event") (codes "header")) _ (event_header_members f) 8 rest refl
-    (λ h. elim c.else-is_none.branch [
-      | else-is_none-via-then-is_none+else-is_none-2 w ↦
-          let on : is_none f.timestamp ≡ false = search rules in number_stands (codes "timestamp") f.timestamp on (none_in id timestamp h).1
-      | else-is_none-via-else-is_none w ↦ let on : is_none f.id ≡ false = search rules in number_stands (codes "id") f.id on (none_in id timestamp h).0
+    (λ h. let off = two_off f.id f.timestamp h in elim c.else-is_none.branch [
+      | else-is_none-via-then-is_none+else-is_none-2 w ↦ let on : is_none f.timestamp ≡ false = search rules in cc
+      | else-is_none-via-else-is_none w ↦ let on : is_none f.id ≡ false = search rules in cc
     ])
     (c.in_ok-print.ensures _ text (c.in_ok-print-2.ensures _ text (simp groups (c.in_ok-feature.ensures _ text (c.in_ok-feature-2.ensures _ text (one rest text e)))))))

@@ -1,9 +1,6 @@
 use Rattle.tsdl_writer.proofs.Printing.{braced, entries_toks, entry_trees, int_toks, integer_attributes, sym, last, regroup}
 use Rattle.tsdl_writer.proofs.types.+kind.Goals as goal
 
-pub returns-in-Int : goal.returns-in-Int
-returns-in-Int t c = rw c.in-Int.is c.integer.ensures
-
 pub returns-in_ok-entries-in-Enum : goal.returns-in_ok-entries-in-Enum
 returns-in_ok-entries-in-Enum t c =
     let int = int_toks (integer_attributes c.in-Enum.labels.int) in let labels = entries_toks (entry_trees c.as_slice.result.now) in
