@@ -5,6 +5,7 @@ ghost use Rattle.tsdl_grammar.specs.declared.tree.Block.{Block};
 ghost use Rattle.tsdl_grammar.specs.Spelling.{text_toks};
 
 /// A list of atoms spells at most one list of blocks.
+#[tactic(auto, using(crate::proofs::Blocks::one_reading))]
 pub fn blocks_are_unique()
     ensures { (bs cs : List Block) → text_toks bs ≡ text_toks cs → bs ≡ cs }
 {}
