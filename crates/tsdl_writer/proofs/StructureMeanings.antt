@@ -119,10 +119,6 @@ abbrev pub found : Members → ℕ → Option Structure
 found [] align = None
 found (m ∷ ms) align = Some (structure_tree (m ∷ ms) align)
 
-no_shown : (t : StructType) → t.members ≡ shown_members 0 [] → t.members ≡ []
-unfolding shown_members
-no_shown t e = e
-
 -- a structure of metadata that is allowed, and that these members of a configuration make
 pub record Shows (clocks : List (List ℕ)) (ms : Members) (align : ℕ) (t : StructType) : Type 0 where
   pub same : t.members ≡ shown_members 0 ms
@@ -132,8 +128,8 @@ pub record Shows (clocks : List (List ℕ)) (ms : Members) (align : ℕ) (t : St
 
 -- it is what its tree means
 pub structure_read : (known : Known) (ms : Members) (align : ℕ) (t : StructType) → Shows known.clocks ms align t → structure_of known (found ms align) ≡ Some t
-unfolding struct_meaning
-structure_read known [] align t h = let none = no_shown t h.same in struct_type-gives t [] 1 none (h.allowed.empty none)
+unfolding struct_meaning shown_members
+structure_read known [] align t h = struct_type-gives t [] 1 h.same (h.allowed.empty h.same)
 structure_read known (m ∷ ms) align t h =
     let aligned : t.min_align ≡ align = h.aligned (λ e. cc) in
     let shown : List (List ℕ × MemberType) = shown_members 0 (m ∷ ms) in

@@ -14,18 +14,15 @@ all_blocks {p} {text} c entries clocks streams again e k s v printed =
     subst (λ (w : List Atom). Ends p w text) (append-nil (text_toks (blocks_of c))) (pair block_and_semicolon (t ∷ env ++ ks ++ ss) es [] (pair block_and_semicolon (t ∷ env ++ ks) ss _
     (pair block_and_semicolon (t ∷ env) ks _ (regroup (block_and_semicolon t) (text_toks env) _ same))))
 
--- what is printed behind the magic line alone is the text
-is_written : {p : Printer} {text : List ℕ} (c : Config) → Begins p → Ends p (text_toks (blocks_of c)) text → text ≡ written c
-unfolding written
-is_written c b ends = sym (rw (b.text, b.depth, b.place) at ends.whole)
-
 pub returns : goal.returns
+unfolding written
 returns c =
     let config = c.args.config.now in
     let ends : Ends c.all_events.new.out [] _ = record { whole = sym c.in_ok-text.ensures; strings = tt } in
     let printed = c.in_ok-trace.ensures.prints _ _ (c.in_ok-environment.ensures.prints _ _ (c.in_ok-clocks.ensures.prints _ _ (c.in_ok-streams.ensures _ _ (c.in_ok-all_events.ensures [] _ ends)))) in
     let blocks = all_blocks config _ _ _ _ c.as_slice.ensures c.as_slice-2.ensures c.as_slice-3.ensures c.as_slice-4.ensures printed in
-    let text = is_written config c.in_ok-out.ensures blocks in
+    let begins = c.in_ok-out.ensures in
+    let text = sym (rw (begins.text, begins.depth, begins.place) at blocks.whole) in
     let held : IsHeld config = record {
       uuid = c.in_ok-trace.ensures.held;
       environment = subst (All (λ (e : EnvironmentEntry). IsHeldValue e.value)) c.as_slice.ensures c.in_ok-environment.ensures.held;
