@@ -8,7 +8,7 @@ use crate::expected::Expected;
 use crate::halt::{Halt, Missing, Unread};
 use ctf_types::Text;
 use std::alloc::{AllocError, Global};
-use tsdl_grammar::{Atom, Atoms, Mark, Number, Sign, TokenKind};
+use tsdl_grammar::{Atom, Atoms, Front, Mark, Number, Sign, TokenKind};
 
 /// What stands at the front of some atoms, and the atoms behind it.
 pub(crate) type Read<'a, T, E = Unread> = Result<(T, Atoms<'a>), E>;
@@ -61,10 +61,8 @@ pub(crate) fn word_at(alloc: Global, atoms: Atoms<'_>, expected: Expected) -> Re
 pub(crate) fn names(keyword: &str, atoms: Atoms<'_>) -> bool
     ensures { result ≡ names keyword.now (shown atoms.entry) }
 {
-    match atoms.front {
-        Some(front) => front.word().is_some_and(|word| word == keyword),
-        None => false,
-    }
+    let is_word = |front: Front<'_>| front.word().is_some_and(|word| word == keyword);
+    atoms.front.is_some_and(is_word)
 }
 
 /// What stands behind this word.
@@ -94,14 +92,18 @@ pub(crate) fn number_at(alloc: Global, atoms: Atoms<'_>, expected: Expected) -> 
         first => (None, atoms, (first, rest)),
     };
     let Some(Atom::Number(literal)) = second else {
-        let expected = match place.front {
-            Some(front) if matches!(front.kind, TokenKind::Number) => Expected::SmallerNumber,
-            _ => expected,
-        };
         return Err(Unread::Halted(Halt {
             dropped: if sign.is_some() { 1 } else { 0 },
-            ..Halt::before(place, expected, &[Missing::Zero])
+            ..Halt::before(place, expected_number(place, expected), &[Missing::Zero])
         }));
     };
     Ok((Number { sign, literal }, rest))
+}
+
+/// What was expected in front of these atoms: a smaller number, where one stands there that is too large.
+fn expected_number(atoms: Atoms<'_>, expected: Expected) -> Expected {
+    match atoms.front {
+        Some(front) if matches!(front.kind, TokenKind::Number) => Expected::SmallerNumber,
+        _ => expected,
+    }
 }
