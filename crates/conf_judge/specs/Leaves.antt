@@ -1,6 +1,6 @@
 -- Values that hold no others, and the flaw of one that is not what it is to be: it is of another kind, no whole number, or
 -- outside of what is allowed (barectf 3.1, "Configuration object" and the pages below it).
-use Rattle.std.specs.Prelude.{◌&&◌, ◌||◌, ◌==◌, ◌%◌, ℤ, pos, negsuc, Bool, true, false, not, is_some, nat_lt, Result, Ok, Err, codes, ⊤}
+use Rattle.std.specs.Prelude.{◌&&◌, ◌||◌, ◌==◌, ◌%◌, ℤ, pos, negsuc, Bool, true, false, not, is_some, nat_lt, Result, Ok, Err, codes, ⊤, if◌then◌else◌}
 use Rattle.std.specs.List.{list_any}
 use Rattle.std.specs.Option.{option_map_or}
 use Rattle.std.specs.Str.{bytes_eq}
@@ -18,8 +18,7 @@ use Rattle.conf_judge.specs.Known.{Known}
 
 -- the value is out of range where this does not hold
 abbrev pub only_if : Bool → Result ⊤ Flaw
-only_if true = Ok tt
-only_if false = Err (here OutOfRange)
+only_if holds = if holds then Ok tt else Err (here OutOfRange)
 
 unfoldable pub whole_from : ℤ → ℤ → Data → Result ⊤ Flaw
 whole_from low high d = whole_of low high d >>= (λ z. Ok tt)

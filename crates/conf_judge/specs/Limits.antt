@@ -14,13 +14,12 @@ use Rattle.conf_table.specs.declared.row.Content.TheVariants as contents
 use Rattle.conf_table.specs.declared.row.Entries.{Entries}
 use Rattle.conf_table.specs.declared.row.Keys.{Keys}
 use Rattle.conf_table.specs.declared.row.Keys.TheVariants.{Label}
-use Rattle.conf_table.specs.Classes.{class_of}
+use Rattle.conf_table.specs.Classes.{class_of, is_static_array}
 use Rattle.conf_table.specs.Table.{entries_of, content_under}
 use Rattle.conf_values.specs.Scalar.{as_natural}
 use Rattle.conf_judge.specs.Flaws.{told_by}
 use Rattle.conf_judge.specs.Numbers.{natural_in}
 use Rattle.conf_judge.specs.Places.{place_of_properties, item_content, is_place, place_at}
-use Rattle.conf_judge.specs.Shapes.{is_static_array}
 
 -- the limit is passed where this does not hold
 abbrev pub within_limit : Bool → Result ⊤ Flaw
@@ -60,8 +59,8 @@ abbrev mutual
   elements levels (number n) = Some 1
   elements levels (string s) = Some 1
   elements levels (array ds) = Some 1
-  elements zero (object ms) = if is_static_array (class_of ms) then None else Some 1
-  elements (suc levels) (object ms) = if is_static_array (class_of ms) then elements_in_array levels (at_least_one (natural_in (codes "length") ms)) ms else Some 1
+  elements zero (object ms) = if option_map_or is_static_array (class_of ms) false then None else Some 1
+  elements (suc levels) (object ms) = if option_map_or is_static_array (class_of ms) false then elements_in_array levels (at_least_one (natural_in (codes "length") ms)) ms else Some 1
 
   pub elements_in_array : ℕ → Option ℕ → Members → Option ℕ
   elements_in_array levels count no_members = count

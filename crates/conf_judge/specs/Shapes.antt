@@ -2,6 +2,7 @@
 -- unsigned integers of 8 bits with alignment 8, and what stands in a dynamic array has bits (CTF 1.8.3, section 5.1; barectf 3.1,
 -- "Trace type object"; the last is this project's own).
 use Rattle.std.specs.Prelude.{◌&&◌, ◌||◌, ℕ, nat_eq, Bool, true, false, not, Option, Some, None, Result, ⊤, codes, if◌then◌else◌}
+use Rattle.std.specs.Option.{option_map_or}
 use Rattle.std.specs.Str.{bytes_eq}
 use Rattle.serde_json.specs.Data.{Data, object, Members, no_members, member}
 use Rattle.serde_json.specs.Find.{get_member}
@@ -9,7 +10,7 @@ use Rattle.conf_tree.specs.Flaw.{Flaw}
 use Rattle.conf_tree.specs.Reading.{optional}
 use Rattle.conf_table.specs.declared.place.Place.{Place}
 use Rattle.conf_table.specs.declared.place.Place.TheVariants as places
-use Rattle.conf_table.specs.Classes.{class_of}
+use Rattle.conf_table.specs.Classes.{class_of, is_unsigned_integer, is_static_array}
 use Rattle.conf_values.specs.Scalar.{as_natural}
 use Rattle.conf_judge.specs.Leaves.{only_if}
 use Rattle.conf_judge.specs.Numbers.{natural_in}
@@ -18,21 +19,13 @@ abbrev pub is_number : Option ℕ → ℕ → Bool
 is_number None n = false
 is_number (Some m) n = nat_eq m n
 
-abbrev pub is_unsigned_integer : Option Place → Bool
-is_unsigned_integer (Some places.UnsignedInteger) = true
-is_unsigned_integer _ = false
-
-abbrev pub is_static_array : Option Place → Bool
-is_static_array (Some places.StaticArray) = true
-is_static_array _ = false
-
 -- an alignment that is 8, or is left out
 abbrev pub is_eight : Option Data → Bool
 is_eight None = true
 is_eight (Some d) = is_number (as_natural d) 8
 
 abbrev pub is_byte : Option Data → Bool
-is_byte (Some (object ms)) = is_unsigned_integer (class_of ms) && (is_number (natural_in (codes "size") ms) 8 && is_eight (optional (codes "alignment") ms))
+is_byte (Some (object ms)) = option_map_or is_unsigned_integer (class_of ms) false && (is_number (natural_in (codes "size") ms) 8 && is_eight (optional (codes "alignment") ms))
 is_byte _ = false
 
 unfoldable pub is_identifier : Members → Bool
@@ -41,7 +34,7 @@ is_identifier ms = is_number (natural_in (codes "length") ms) 16 && is_byte (get
 -- no empty static array, nor one of such
 abbrev mutual
   pub has_bits : Data → Bool
-  has_bits (object ms) = not (is_static_array (class_of ms)) || (not (is_number (natural_in (codes "length") ms) 0) && element_has_bits ms)
+  has_bits (object ms) = not (option_map_or is_static_array (class_of ms) false) || (not (is_number (natural_in (codes "length") ms) 0) && element_has_bits ms)
   has_bits _ = true
 
   pub element_has_bits : Members → Bool

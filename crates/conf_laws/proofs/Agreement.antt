@@ -1,8 +1,8 @@
 -- What a judge knows around a value is what the value stands in.
 use Rattle.std.proofs.Common.{◌≡◌, ◌⊎◌, ◌+◌, ◌<◌, ℕ, zero, suc, Some, inl, inr, sym, ap, subst, ◌∙◌, arith, ◌↔◌, ◌||◌, Bool, true, false, List, [], ◌∷◌, Contains, Option, is_some, refl, codes, unwrap_or, option_map, option_and_then, cond}
-use Rattle.conf_laws.proofs.Words.{Around, member_of, item_of, levels_around, SaysDefault, HasDefault, IsBehindDefault, enumeration_around, IsDynamic, TakesName, IsBeside, IsTaken, Place, class_of, is_dynamic_array, Known, nothing, inside, behind, with_taken, is_true, says_default, class_of_member, is_dynamic, take, take_each, take_all, names_beside, with_names, is_taken, all_numbers, numbers_in, optional, HasMember, get_member-put, get_member-put_other, Data, Items, item, null, boolean, object, Members, no_members, member, get_item, get_member, as_object, cases_lt, false≢true, or_cases, or_left, or_right, option_map_or, bytes_eq, bytes_eq-Decides, own_names, length_name}
+use Rattle.conf_laws.proofs.Words.{Around, member_of, item_of, levels_around, SaysDefault, HasDefault, IsBehindDefault, enumeration_around, IsDynamic, TakesName, IsBeside, IsTaken, Place, class_of, is_dynamic_array, Known, nothing, inside, behind, with_taken, is_true, says_default, class_of_member, is_dynamic, take, take_each, take_all, names_beside, with_names, is_taken, all_numbers, numbers_in, optional, HasMember, get_member-put, get_member-put_other, Data, Items, item, null, boolean, object, Members, no_members, member, get_item, get_member, as_object, cases_lt, false≢true, or_cases, or_left, or_right, bytes_eq, bytes_eq-Decides, own_names, length_name}
 use Rattle.conf_laws.proofs.Words.places
-use Rattle.conf_laws.proofs.Readings.{by_test, some_same}
+use Rattle.conf_laws.proofs.Readings.{by_test, some_same, class_told, only_dynamic}
 
 -- these are the items from place i on
 abbrev pub IsFrom : Items → ℕ → Items → Type 0
@@ -98,10 +98,6 @@ each_taken (n ∷ names) taken name = joined (each_taken names (take n taken) na
 
 -- ---- dynamic arrays
 
-pub array_told : (o : Option Place) → option_map_or is_dynamic_array o false ≡ true → o ≡ Some places.DynamicArray
-array_told (Some places.DynamicArray) e = refl
-array_told _ e = absurd cc
-
 type_told : (o : Option Data) → option_and_then class_of (option_and_then as_object o) ≡ Some places.DynamicArray → (type : Members) × (o ≡ Some (object type)) × (class_of type ≡ Some places.DynamicArray)
 type_told (Some (object ms)) e = (ms, refl, e)
 type_told _ e = absurd cc
@@ -112,7 +108,7 @@ member_told _ e = absurd cc
 
 pub dynamic_told : (d : Data) → is_dynamic d ≡ true → IsDynamic d
 unfolding is_dynamic
-dynamic_told d e = member_told d (array_told (class_of_member d) e)
+dynamic_told d e = member_told d (class_told is_dynamic_array places.DynamicArray only_dynamic (class_of_member d) e)
 
 pub told_dynamic : (d : Data) → IsDynamic d → is_dynamic d ≡ true
 unfolding is_dynamic

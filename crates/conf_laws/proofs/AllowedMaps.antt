@@ -3,10 +3,10 @@
 -- types that have no flaw and pass no limit are ones that the rules allow.
 use Rattle.std.proofs.Common.{◌≡◌, ℕ, ◌||◌, ◌&&◌, true, List, length, Ok, arith, ◌==◌, ◌%◌, Bool, Some, None, nat_lt, sym, ap, ◌≢◌, ℤ, pos, suc, ◌<◌, ◌≤◌, [], ◌∷◌, ◌++◌, Less, Greater, nat_cmp, refl, subst, ◌∙◌, length-append, All, Option, map, cond, lt-ltb, nat_le, int_le, codes, option_and_then, unwrap_or, negsuc}
 use Rattle.conf_laws.proofs.Numbers.{whole_there, lowest_end, highest_end, ReadSo, read_so, some_size, natural_is_in, IsAlignment, alignment_or, needed_natural}
-use Rattle.conf_laws.proofs.Properties.{IsWithin, AreWithin, object_within, entry_within, optional_within, all_within, fitting_parts, flaws_in, names_of, sorted_names, names_counted, MapPlace, is_map, Property, leads, needed_by, OwnPlace, is_own, is_object}
-use Rattle.conf_laws.proofs.Readings.{Says, proved_says, under_no_test, was_so, all_joined, same_natural, word_there, optional_found, by_found, by_test}
-use Rattle.conf_laws.proofs.Sound.{RowsSound, ContentSound, object_sound, content_sound, first_item, first_entry, held_at, needed_sound, optional_sound, rows_sound}
-use Rattle.conf_laws.proofs.Words.{IsPair, entries_of, Place, At, WholeOrText, Whole, Text, Content, member_flaws, item_flaws, inside, behind, itself_of, form_of, Known, with_taken, key_fits, count_of, ranges_fit, key_of, key_by, names_beside, with_names, end_of, range_of, is_inside, inside_of, natural_in, numbers_of, numbers_in, all_numbers, item_content, leaf_of, whole_or_text, fits, here, AllAbove, IsInOrder, whole_of, OutOfRange, both_read, is_passed, name_of, is_reserved, plain_name_of, is_printable, Members, Data, number, array, Items, no_items, item, no_members, member, object, items_len, as_integer, as_array, optional, as_natural, string, members_len, nat_tests, and_parts, or_parts, leb-true, nat_list_cmp_total, tied_itself, T_from_true, All-from_recursion, All-weaker, slice_cmp, le_z_yes, list_any, option_map_or, AllByRecursion, bytes_eq, length-map, whole, low, high, ranges_in, mappings_of as ranges_of, labels_in, enumeration, integer, size_of, object_at, properties, LabelsInOrder, lowest, highest, IsRangeOf, IsEnumeration, is_name as is_identifier, unused_keywords, used_keywords, IsConfigName, IsPlainName, IsConfigText, IntType, Mapping, clock_type, clocks_in, clock_types, entry_value, entries_in, environment, natural, word, InByteOrder, IsEnvironmentValue, IsClockType, ClockType, EnvironmentEntry, integer_made as made, integer_align as align_of, default_align, counted_ranges}
+use Rattle.conf_laws.proofs.Properties.{IsWithin, AreWithin, object_within, entry_within, optional_within, all_within, fitting_parts, flaws_in, names_of, sorted_names, names_counted, MapPlace, is_map, OwnPlace, is_own, is_object}
+use Rattle.conf_laws.proofs.Readings.{Says, proved_says, under_no_test, all_joined, same_natural, word_there, optional_found, by_found, by_test}
+use Rattle.conf_laws.proofs.Sound.{HasRow, RowsSound, ContentSound, object_sound, content_sound, first_item, first_entry, held_at, needed_sound, optional_sound, rows_sound}
+use Rattle.conf_laws.proofs.Words.{rows_of, Needed, entries_of, Place, At, WholeOrText, Whole, Text, Content, member_flaws, item_flaws, inside, behind, itself_of, form_of, Known, with_taken, key_fits, ranges_fit, key_of, key_by, names_beside, with_names, end_of, range_of, is_inside, inside_of, natural_in, numbers_of, numbers_in, all_numbers, item_content, leaf_of, whole_or_text, fits, here, AllAbove, IsInOrder, whole_of, OutOfRange, both_read, is_passed, name_of, is_reserved, plain_name_of, is_printable, Members, Data, number, array, Items, no_items, item, no_members, member, object, items_len, as_integer, optional, as_natural, string, members_len, nat_tests, and_parts, or_parts, leb-true, nat_list_cmp_total, tied_itself, T_from_true, All-from_recursion, All-weaker, slice_cmp, le_z_yes, list_any, option_map_or, AllByRecursion, bytes_eq, length-map, whole, low, high, ranges_in, labels_in, enumeration, integer, size_of, object_at, properties, LabelsInOrder, lowest, highest, IsRangeOf, IsEnumeration, is_name as is_identifier, unused_keywords, used_keywords, IsConfigName, IsPlainName, IsConfigText, IntType, Mapping, clock_type, clocks_in, clock_types, entry_value, entries_in, environment, natural, word, InByteOrder, IsEnvironmentValue, IsClockType, ClockType, EnvironmentEntry, integer_made as made, integer_align as align_of, default_align, counted_ranges}
 use Rattle.conf_laws.proofs.Words.places
 
 pub config_name : (name : List ℕ) → name_of name ≡ Ok tt → IsConfigName name
@@ -37,10 +37,10 @@ pub record IsMade (size align : ℕ) (signed : Bool) (t : IntType) : Type 0 wher
 by_default : (size : ℕ) → IsAlignment (default_align size)
 by_default size = by_test (λ (b : Bool). IsAlignment (cond b 8 1)) (size % 8 == 0) (λ is. record { positive = refl; power = refl }) (λ is. record { positive = refl; power = refl })
 
-pub integer_says : (k : Known) (place : Place) (signed : Bool) (ms : Members) → Property true place (codes "size") (Whole (pos 1) (pos 64)) → RowsSound k place ms → Says (integer signed ms) (IsMade (size_of ms) (align_of ms) signed)
+pub integer_says : (k : Known) (place : Place) (signed : Bool) (ms : Members) → HasRow place (codes "size") Needed (Whole (pos 1) (pos 64)) → RowsSound k place ms → Says (integer signed ms) (IsMade (size_of ms) (align_of ms) signed)
 unfolding integer made size_of align_of
 integer_says k place signed ms size h =
-    let n = needed_natural k place (codes "size") 1 64 ms (leads size) (needed_by size) h (omega arith) in
+    let n = needed_natural k place (codes "size") 1 64 ms size h (omega arith) in
     let is = sym (ap (λ o. unwrap_or o 0) n.1) in
     let align = alignment_or (codes "alignment") (default_align (size_of ms)) ms (by_default (size_of ms)) in
     let P : IntType → Type 0 = IsMade (size_of ms) (align_of ms) signed in
@@ -54,17 +54,12 @@ unfolding whole_of
 end_is (number n) x e = ap (λ o. unwrap_or o (pos 0)) (whole_there lowest_end highest_end (as_integer n) x e).0
 end_is _ x e = absurd cc
 
-one_end : (d : Data) (z : ℤ) → as_array d ≡ None → end_of d ≡ Ok z → (z ≡ low d) × (z ≡ high d)
-one_end (array ds) z none e = absurd cc
-one_end d z none e = let one = sym (end_is d z e) in (one, one)
-
-two_ends : (d a b : Data) → IsPair d a b → (low d ≡ whole (Some a)) × (high d ≡ whole (Some b))
-two_ends (array ds) a b pair = let same : ds ≡ item a (item b no_items) = cc in (ap (λ x. low (array x)) same, ap (λ x. high (array x)) same)
-two_ends _ a b pair = absurd cc
-
 range_is : (d : Data) (x y : ℤ) → ReadSo d x y → (x ≡ low d) × (y ≡ high d)
-range_is d x y (ReadSo.one_number z none e) = one_end d z none e
-range_is d x y (ReadSo.two_numbers a b z w pair e f) = let ends = two_ends d a b pair in (sym (end_is a z e) ∙ sym ends.0, sym (end_is b w f) ∙ sym ends.1)
+range_is (array ds) x y (ReadSo.one_number z none e) = absurd cc
+range_is d x y (ReadSo.one_number z none e) = let one = sym (end_is d z e) in (one, one)
+range_is (array ds) x y (ReadSo.two_numbers a b z w pair e f) =
+    let same : item a (item b no_items) ≡ ds = cc in (sym (end_is a z e) ∙ ap (λ v. low (array v)) same, sym (end_is b w f) ∙ ap (λ v. high (array v)) same)
+range_is d x y (ReadSo.two_numbers a b z w pair e f) = absurd cc
 
 -- from low to high, not empty and inside the numbers that are known
 abbrev pub is_known : Known → ℤ → ℤ → Bool
@@ -92,43 +87,31 @@ ranges_good k label taken i (item d ds) text f =
 
 -- ---- the labels
 
-own_good : (k : Known) (label : List ℕ) (d : Data) → IsConfigText label → ContentSound k (At places.Ranges) d → AllByRecursion (IsGoodMapping k) (ranges_of label d)
-own_good k label (array ds) text h = ranges_good k label (names_beside places.Ranges) 0 ds text h.inner
-own_good k label _ text h = tt
-
 labels_good : (k : Known) (labels : Members) → member_flaws k places.Mappings labels ≡ [] → AreWithin places.Mappings labels → AllByRecursion (IsGoodMapping k) (labels_in labels)
 unfolding key_of key_by key_fits entries_of behind
 labels_good k no_members f h = tt
-labels_good k (member label d ms) f h =
-    let sound = first_entry k places.Mappings label (At places.Ranges) d ms (is_map MapPlace.mappings) f in
-    let within = entry_within MapPlace.mappings label d ms h in
-    all_joined (IsGoodMapping k) (ranges_of label d) (labels_in ms) (own_good k label d (config_text label (was_so _ sound.0.named) within.1) sound.0.value) (labels_good k ms sound.1 within.2)
+labels_good k (member label (array ds) ms) f h =
+    let sound = first_entry k places.Mappings label (At places.Ranges) (array ds) ms (is_map MapPlace.mappings) f in
+    let within = entry_within MapPlace.mappings label (array ds) ms h in
+    all_joined (IsGoodMapping k) (ranges_in label ds) (labels_in ms) (ranges_good k label (names_beside places.Ranges) 0 ds (config_text label (is_passed _ tt tt _ sound.0.named).0 within.1) sound.0.value.inner) (labels_good k ms sound.1 within.2)
+labels_good k (member label d ms) f h = labels_good k ms (first_entry k places.Mappings label (At places.Ranges) d ms (is_map MapPlace.mappings) f).1 (entry_within MapPlace.mappings label d ms h).2
 
 -- ---- how many there are
-
-some_here : (k : Known) (label : List ℕ) (d : Data) → itself_of k (At places.Ranges) d ≡ Ok tt → 0 < length (ranges_of label d)
-unfolding itself_of form_of
-some_here k label (array (item d ds)) e = omega arith
-some_here k label _ e = absurd cc
 
 some_range : (k : Known) (labels : Members) → itself_of k (At places.Mappings) (object labels) ≡ Ok tt → member_flaws k places.Mappings labels ≡ [] → 0 < length (labels_in labels)
 unfolding itself_of form_of
 some_range k no_members some f = absurd cc
-some_range k (member label d ms) some f =
-    let first = some_here k label d (first_entry k places.Mappings label (At places.Ranges) d ms (is_map MapPlace.mappings) f).0.value.itself in
-    omega (arith, first, length-append (ranges_of label d) (labels_in ms))
+some_range k (member label (array (item d ds)) ms) some f = omega arith
+some_range k (member label d ms) some f = absurd (let e = (first_entry k places.Mappings label (At places.Ranges) d ms (is_map MapPlace.mappings) f).0.value.itself in cc)
 
 ranges_counted : (label : List ℕ) (ds : Items) → length (ranges_in label ds) ≡ items_len ds
 ranges_counted label no_items = refl
 ranges_counted label (item d ds) = ap suc (ranges_counted label ds)
 
-own_few : (label : List ℕ) (d : Data) → length (ranges_of label d) ≤ count_of d
-own_few label (array ds) = omega (arith, ranges_counted label ds)
-own_few label _ = omega arith
-
 pub labels_few : (labels : Members) → length (labels_in labels) ≤ counted_ranges labels
 labels_few no_members = omega arith
-labels_few (member label d ms) = omega (arith, labels_few ms, own_few label d, length-append (ranges_of label d) (labels_in ms))
+labels_few (member label (array ds) ms) = omega (arith, labels_few ms, ranges_counted label ds, length-append (ranges_in label ds) (labels_in ms))
+labels_few (member label d ms) = omega (arith, labels_few ms)
 
 -- ---- the order of labels
 
@@ -143,13 +126,10 @@ ranges_below : (k label : List ℕ) (ds : Items) → slice_cmp nat_cmp k label �
 ranges_below k label no_items below = tt
 ranges_below k label (item d ds) below = (λ g. cc, ranges_below k label ds below)
 
-own_below : (k label : List ℕ) (d : Data) → slice_cmp nat_cmp k label ≡ Less → NoneBelow k (ranges_of label d)
-own_below k label (array ds) below = ranges_below k label ds below
-own_below k label _ below = tt
-
 labels_below : (k : List ℕ) (labels : Members) → AllAbove k labels → NoneBelow k (labels_in labels)
 labels_below k no_members above = tt
-labels_below k (member label d ms) above = all_joined (λ m. NotAbove k m.label) (ranges_of label d) (labels_in ms) (own_below k label d above.0) (labels_below k ms above.1)
+labels_below k (member label (array ds) ms) above = all_joined (λ m. NotAbove k m.label) (ranges_in label ds) (labels_in ms) (ranges_below k label ds above.0) (labels_below k ms above.1)
+labels_below k (member label d ms) above = labels_below k ms above.1
 
 -- the ranges of a label before those of the labels that are not below it
 ranges_in_order : (label : List ℕ) (ds : Items) (rest : List Mapping) → NoneBelow label rest → LabelsInOrder rest → LabelsInOrder (ranges_in label ds ++ rest)
@@ -159,14 +139,11 @@ ranges_in_order label (item d no_items) [] below h = tt
 ranges_in_order label (item d no_items) (b ∷ rest) below h = (below.0, h)
 ranges_in_order label (item d (item e ds)) rest below h = (λ g. let same = tied_itself nat_list_cmp_total label in cc, ranges_in_order label (item e ds) rest below h)
 
-own_in_order : (label : List ℕ) (d : Data) (rest : List Mapping) → NoneBelow label rest → LabelsInOrder rest → LabelsInOrder (ranges_of label d ++ rest)
-own_in_order label (array ds) rest below h = ranges_in_order label ds rest below h
-own_in_order label _ rest below h = h
-
 pub labels_in_order : (labels : Members) → IsInOrder labels → LabelsInOrder (labels_in labels)
 unfolding LabelsInOrder
 labels_in_order no_members order = tt
-labels_in_order (member label d ms) order = own_in_order label d (labels_in ms) (labels_below label ms order.0) (labels_in_order ms order.1)
+labels_in_order (member label (array ds) ms) order = ranges_in_order label ds (labels_in ms) (labels_below label ms order.0) (labels_in_order ms order.1)
+labels_in_order (member label d ms) order = labels_in_order ms order.1
 
 -- labels that have no flaw and pass no limit, one at least
 record AreMappings (k : Known) (ms : List Mapping) : Type 0 where
@@ -225,15 +202,15 @@ enumeration_with k signed ms mappings t made known h = record {
   few = h.few;
 }
 
-pub enumeration_says : (k : Known) (place : Place) (signed : Bool) (ms : Members) → Property true place (codes "size") (Whole (pos 1) (pos 64)) → Property true place (codes "mappings") (At places.Mappings) → k.numbers ≡ numbers_in signed ms → RowsSound k place ms
+pub enumeration_says : (k : Known) (place : Place) (signed : Bool) (ms : Members) → HasRow place (codes "size") Needed (Whole (pos 1) (pos 64)) → HasRow place (codes "mappings") Needed (At places.Mappings) → k.numbers ≡ numbers_in signed ms → RowsSound k place ms
     → Says (enumeration signed ms) (λ t. AreWithin place ms → IsEnumeration t)
 unfolding enumeration properties object_at
 enumeration_says k place signed ms size mappings known h =
     let int = integer_says k place signed ms size h in
-    let p = needed_sound k place (codes "mappings") (At places.Mappings) ms (leads mappings) (needed_by mappings) h in
-    let labels = some_object k p.value p.sound.value in
-    let found = optional_found (codes "mappings") ms (object labels.0) (p.found ∙ ap Some labels.1) refl in
-    (record { int = int.0; mappings = labels_in labels.0 }, rw (int.1, found) refl, λ within. enumeration_with k signed ms (labels_in labels.0) int.0 int.2 known (mappings_good k labels.0 (subst (λ x. ContentSound k (At places.Mappings) x) labels.1 p.sound.value) (optional_within mappings ms (object labels.0) within found)))
+    let (d, there, sound) = needed_sound k place (codes "mappings") (At places.Mappings) ms mappings h in
+    let labels = some_object k d sound.value in
+    let found = optional_found (codes "mappings") ms (object labels.0) (there ∙ ap Some labels.1) refl in
+    (record { int = int.0; mappings = labels_in labels.0 }, rw (int.1, found) refl, λ within. enumeration_with k signed ms (labels_in labels.0) int.0 int.2 known (mappings_good k labels.0 (subst (λ x. ContentSound k (At places.Mappings) x) labels.1 sound.value) (optional_within place (codes "mappings") (At places.Mappings) mappings ms (object labels.0) within found)))
 
 -- items that are good, in byte order of their names, and no more than `most`
 pub record AreAllowed {A : Type 0} (named : A → List ℕ) (good : A → Type 0) (most : ℕ) (xs : List A) : Type 0 where
@@ -263,7 +240,7 @@ entry_content = WholeOrText (negsuc 9223372036854775807) (pos 922337203685477580
 
 value_allowed : (k : Known) (d : Data) → ContentSound k entry_content d → IsWithin entry_content d → IsEnvironmentValue (entry_value d)
 unfolding itself_of leaf_of whole_or_text fits
-value_allowed k (string s) h within = config_text s (was_so _ h.itself) within.fitting
+value_allowed k (string s) h within = config_text s (is_passed _ tt tt _ h.itself).0 within.fitting
 value_allowed k _ h within = tt
 
 abbrev entry_name : EnvironmentEntry → List ℕ
@@ -284,25 +261,25 @@ abbrev pub IsEnvironment : List EnvironmentEntry → Type 0
 IsEnvironment es = AreAllowed entry_name IsEntry 256 es
 
 pub environment_allowed : (k : Known) (ms : Members) → member_flaws k places.Trace ms ≡ [] → AreWithin places.Trace ms → IsEnvironment (environment ms)
-unfolding environment entries_of
+unfolding environment entries_of rows_of
 environment_allowed k ms f h =
-    let all = all_within Property.environment OwnPlace.environment ms h in
-    map_allowed entry_name IsEntry 256 _ _ all.0.in_order all.1 (entries_under k _ (flaws_in k Property.environment OwnPlace.environment ms f) all.0)
+    let all = all_within places.Trace (codes "environment") (refl, refl) OwnPlace.environment ms h in
+    map_allowed entry_name IsEntry 256 _ _ all.0.in_order all.1 (entries_under k _ (flaws_in k places.Trace (codes "environment") (refl, refl) OwnPlace.environment ms f) all.0)
 
 -- ---- one clock type
 
 description_allowed : (k : Known) (ms : Members) (s : List ℕ) → member_flaws k places.ClockType ms ≡ [] → AreWithin places.ClockType ms → word (codes "description") ms ≡ Some s → IsConfigText s
-unfolding itself_of leaf_of fits word
+unfolding itself_of leaf_of fits word rows_of
 description_allowed k ms s f h e =
     let there = word_there (optional (codes "description") ms) s e in
-    config_text s (was_so _ (optional_sound k places.ClockType (codes "description") (Text 4096) ms (string s) (leads Property.description) f there).value.itself) (optional_within Property.description ms (string s) h there).fitting
+    config_text s (is_passed _ tt tt _ (optional_sound k places.ClockType (codes "description") (Text 4096) ms (string s) (refl, refl) f there).value.itself).0 (optional_within places.ClockType (codes "description") (Text 4096) (refl, refl) ms (string s) h there).fitting
 
 frequency_positive : (k : Known) (ms : Members) → member_flaws k places.ClockType ms ≡ [] → 0 < unwrap_or (natural (codes "frequency") ms) 1000000000
-unfolding itself_of leaf_of natural
+unfolding itself_of leaf_of natural rows_of
 frequency_positive k ms f =
     by_found (λ (o : Option Data). 0 < unwrap_or (option_and_then as_natural o) 1000000000) (optional (codes "frequency") ms)
     (λ e. omega arith) (λ d is. by_found (λ (o : Option ℕ). 0 < unwrap_or o 1000000000) (as_natural d) (λ e. omega arith) (λ n e.
-    let b = (natural_is_in 1 18446744073709551615 d n (omega arith) (optional_sound k places.ClockType (codes "frequency") (Whole (pos 1) (pos 18446744073709551615)) ms d (leads Property.frequency) f is).value.itself e).0 in omega (arith, b)))
+    let b = (natural_is_in 1 18446744073709551615 d n (omega arith) (optional_sound k places.ClockType (codes "frequency") (Whole (pos 1) (pos 18446744073709551615)) ms d (refl, refl) f is).value.itself e).0 in omega (arith, b)))
 
 clock_allowed : (k : Known) (name : List ℕ) (ms : Members) → IsPlainName name → member_flaws k places.ClockType ms ≡ [] → AreWithin places.ClockType ms → IsClockType (clock_type name ms)
 unfolding clock_type
@@ -328,7 +305,7 @@ abbrev pub AreClocks : List ClockType → Type 0
 AreClocks cs = AreAllowed clock_name IsClockType 64 cs
 
 pub clocks_allowed : (k : Known) (ms : Members) → member_flaws k places.TraceType ms ≡ [] → AreWithin places.TraceType ms → AreClocks (clock_types ms)
-unfolding clock_types entries_of
+unfolding clock_types entries_of rows_of
 clocks_allowed k ms f h =
-    let all = all_within Property.clock_types OwnPlace.clock_types ms h in
-    map_allowed clock_name IsClockType 64 _ _ all.0.in_order all.1 (clocks_under k _ (flaws_in k Property.clock_types OwnPlace.clock_types ms f) all.0)
+    let all = all_within places.TraceType (codes "clock-types") (refl, refl) OwnPlace.clock_types ms h in
+    map_allowed clock_name IsClockType 64 _ _ all.0.in_order all.1 (clocks_under k _ (flaws_in k places.TraceType (codes "clock-types") (refl, refl) OwnPlace.clock_types ms f) all.0)

@@ -4,10 +4,10 @@
 use Rattle.std.proofs.Common.{◌≡◌, ℕ, zero, suc, ◌*◌, ◌<◌, ◌≤◌, true, false, cond, List, [], ◌∷◌, length, Option, Some, None, refl, sym, ap, subst, ◌∙◌, arith, max, nat_eq, nat_le, not, codes, unwrap_or, option_and_then, Ok}
 use Rattle.conf_laws.proofs.AllowedMaps.{integer_says, enumeration_says}
 use Rattle.conf_laws.proofs.Numbers.{needed_natural}
-use Rattle.conf_laws.proofs.Properties.{IsWithin, AreWithin, object_within, property_within, Property, leads, needed_by}
+use Rattle.conf_laws.proofs.Properties.{IsWithin, AreWithin, object_within, property_within}
 use Rattle.conf_laws.proofs.Readings.{Says, element_is, element_bits, in_array, by_element, same_natural}
 use Rattle.conf_laws.proofs.Sound.{RowsSound, ContentSound, object_sound, needed_sound, TypeSound, type_sound, class_place}
-use Rattle.conf_laws.proofs.Words.{admits_class, is_class, Place, At, any_object, itself_of, form_of, class_of, Known, inside, at_least_one, elements, times, cond_some, leb-true, natural_in, is_position, is_number, is_static_array, has_bits, Data, object, Members, get_member, false≢true, nat_tests, and_parts, All-from_recursion, same_Some, AllByRecursion, option_map_or, length_of, of_class, field_type, element, natural, TypeHasBits as HasBits, IsNest, elements_of, IsConfigLeaf, chain_of, Int, Enum, Str, Static, FieldType}
+use Rattle.conf_laws.proofs.Words.{rows_of, admits_class, is_class, Place, At, any_object, itself_of, form_of, class_of, Known, inside, at_least_one, elements, times, cond_some, leb-true, natural_in, is_position, is_number, is_static_array, has_bits, Data, object, Members, get_member, false≢true, nat_tests, and_parts, All-from_recursion, same_Some, AllByRecursion, option_map_or, length_of, of_class, field_type, element, natural, TypeHasBits as HasBits, IsNest, elements_of, IsConfigLeaf, chain_of, Int, Enum, Str, Static, FieldType}
 use Rattle.conf_laws.proofs.Words.places
 
 -- its static arrays nest no deeper than these levels, and have n elements in all
@@ -29,10 +29,10 @@ module _ (d : Data) (t : FieldType) (h : IsAllowed d t) where
   nest_allowed n e = let nests = h.nests 8 n e in let size = nests.size in let few = nests.few in record { depth = nests.deep; size = omega (arith, size, few) }
 
 -- no array
-module _ (ms : Members) (class : Place) (is : class_of ms ≡ Some class) (other : is_static_array (Some class) ≡ false) where
+module _ (ms : Members) (class : Place) (is : class_of ms ≡ Some class) (other : is_static_array class ≡ false) where
   counted_one : (levels n : ℕ) → elements levels (object ms) ≡ Some n → 1 ≡ n
-  counted_one zero n e = let single : is_static_array (class_of ms) ≡ false = ap is_static_array is ∙ other in same_Some 1 n (rw single at e)
-  counted_one (suc levels) n e = let single : is_static_array (class_of ms) ≡ false = ap is_static_array is ∙ other in same_Some 1 n (rw single at e)
+  counted_one zero n e = let single : option_map_or is_static_array (class_of ms) false ≡ false = ap (λ o. option_map_or is_static_array o false) is ∙ other in same_Some 1 n (rw single at e)
+  counted_one (suc levels) n e = let single : option_map_or is_static_array (class_of ms) false ≡ false = ap (λ o. option_map_or is_static_array o false) is ∙ other in same_Some 1 n (rw single at e)
 
   alone : (t : FieldType) → (chain_of t).lengths ≡ [] → IsConfigLeaf (chain_of t).leaf → IsAllowed (object ms) t
   unfolding elements_of
@@ -55,7 +55,7 @@ own_is None own e = same_Some 1 own e
 own_is (Some n) own e = let same : cond (nat_eq n 0) 1 n ≡ own = same_Some _ own e in grind (arith, nat_tests)
 
 -- an array of so many of these
-module _ (ms : Members) (static : is_static_array (class_of ms) ≡ true) (n : ℕ) (is : natural (codes "length") ms ≡ Some n) (value : Data) (inner : FieldType) (there : get_member (codes "element-field-type") ms ≡ Some value) where
+module _ (ms : Members) (static : option_map_or is_static_array (class_of ms) false ≡ true) (n : ℕ) (is : natural (codes "length") ms ≡ Some n) (value : Data) (inner : FieldType) (there : get_member (codes "element-field-type") ms ≡ Some value) where
   array_allowed : IsAllowed value inner → IsAllowed (object ms) (Static (chain_of inner) (length_of ms))
   unfolding length_of elements_of
   array_allowed one = record { leaf = one.leaf; bits = bits; nests = nests }
@@ -86,25 +86,25 @@ abbrev ElementsSay : Members → Type 0
 ElementsSay ms = (x : Data) → get_member (codes "element-field-type") ms ≡ Some x → IsSaidAt x
 
 array_says : (k : Known) (ms : Members) → class_of ms ≡ Some places.StaticArray → RowsSound k places.StaticArray ms → ElementsSay ms → Says (of_class (Some places.StaticArray) ms (element ms)) (λ t. AreWithin places.StaticArray ms → IsAllowed (object ms) t)
-unfolding of_class length_of
+unfolding of_class length_of rows_of
 array_says k ms is h inner =
-    let p = needed_sound k places.StaticArray (codes "element-field-type") (At places.ElementType) ms (leads Property.element) (needed_by Property.element) h in
-    let x = inner p.value p.found k p.sound.value in
-    let n = needed_natural k places.StaticArray (codes "length") 0 1048576 ms (leads Property.static_length) (needed_by Property.static_length) h (omega arith) in
+    let (d, found, sound) = needed_sound k places.StaticArray (codes "element-field-type") (At places.ElementType) ms (refl, refl) h in
+    let x = inner d found k sound.value in
+    let n = needed_natural k places.StaticArray (codes "length") 0 1048576 ms (refl, refl) h (omega arith) in
     let fits : nat_le (length_of ms) 1048576 ≡ true = subst (λ o. nat_le (unwrap_or o 0) 1048576 ≡ true) (sym n.1) n.3 in
-    let said : element ms ≡ Some x.0 = element_is ms ∙ ap (option_and_then field_type) p.found ∙ x.1 in
-    (Static (chain_of x.0) (length_of ms), rw (said, fits) refl, λ good. array_allowed ms (ap is_static_array is) n.0 n.1 p.value x.0 p.found (x.2 (property_within Property.element ms p.value good p.found)))
+    let said : element ms ≡ Some x.0 = element_is ms ∙ ap (option_and_then field_type) found ∙ x.1 in
+    (Static (chain_of x.0) (length_of ms), rw (said, fits) refl, λ good. array_allowed ms (ap (λ o. option_map_or is_static_array o false) is) n.0 n.1 d x.0 found (x.2 (property_within places.StaticArray (codes "element-field-type") (At places.ElementType) (refl, refl) ms d good found)))
 
 -- one whose class may stand in an array, and whose own elements say something
 class_says : (k : Known) (class : Place) (ms : Members) → admits_class places.ElementType class ≡ true → class_of ms ≡ Some class → RowsSound (inside class ms k) class ms → ElementsSay ms
     → Says (of_class (Some class) ms (element ms)) (λ t. AreWithin class ms → IsAllowed (object ms) t)
-unfolding admits_class is_class of_class inside
-class_says k places.UnsignedInteger ms a is h inner = let x = integer_says k places.UnsignedInteger false ms Property.unsigned_size h in (Int x.0, rw x.1 refl, λ good. alone ms places.UnsignedInteger is refl (Int x.0) refl x.2.no_clock)
-class_says k places.SignedInteger ms a is h inner = let x = integer_says k places.SignedInteger true ms Property.signed_size h in (Int x.0, rw x.1 refl, λ good. alone ms places.SignedInteger is refl (Int x.0) refl x.2.no_clock)
+unfolding admits_class is_class of_class inside rows_of
+class_says k places.UnsignedInteger ms a is h inner = let x = integer_says k places.UnsignedInteger false ms (refl, refl) h in (Int x.0, rw x.1 refl, λ good. alone ms places.UnsignedInteger is refl (Int x.0) refl x.2.no_clock)
+class_says k places.SignedInteger ms a is h inner = let x = integer_says k places.SignedInteger true ms (refl, refl) h in (Int x.0, rw x.1 refl, λ good. alone ms places.SignedInteger is refl (Int x.0) refl x.2.no_clock)
 class_says k places.UnsignedEnumeration ms a is h inner =
-    let x = enumeration_says _ places.UnsignedEnumeration false ms Property.unsigned_enumeration_size Property.unsigned_mappings refl h in (Enum x.0, rw x.1 refl, λ good. alone ms places.UnsignedEnumeration is refl (Enum x.0) refl (x.2 good))
+    let x = enumeration_says _ places.UnsignedEnumeration false ms (refl, refl) (refl, refl) refl h in (Enum x.0, rw x.1 refl, λ good. alone ms places.UnsignedEnumeration is refl (Enum x.0) refl (x.2 good))
 class_says k places.SignedEnumeration ms a is h inner =
-    let x = enumeration_says _ places.SignedEnumeration true ms Property.signed_enumeration_size Property.signed_mappings refl h in (Enum x.0, rw x.1 refl, λ good. alone ms places.SignedEnumeration is refl (Enum x.0) refl (x.2 good))
+    let x = enumeration_says _ places.SignedEnumeration true ms (refl, refl) (refl, refl) refl h in (Enum x.0, rw x.1 refl, λ good. alone ms places.SignedEnumeration is refl (Enum x.0) refl (x.2 good))
 class_says k places.Str ms a is h inner = (Str, refl, λ good. alone ms places.Str is refl Str refl tt)
 class_says k places.StaticArray ms a is h inner = array_says k ms is h inner
 class_says k _ ms a is h inner = absurd (false≢true a)

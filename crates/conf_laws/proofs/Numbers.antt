@@ -2,8 +2,8 @@
 -- that passes no limit is the very number that is read.
 use Rattle.std.proofs.Common.{◌≡◌, ◌≤◌, ℕ, ℤ, pos, negsuc, true, false, List, Option, Some, Ok, nat_le, leb-true, le-leb, arith, refl, sym, ap, subst, ◌∙◌, None, ◌<◌, Bool, ◌%◌, ◌==◌, cond, ◌&&◌, int_le, nat_lt, nat_eq, codes, option_and_then, unwrap_or}
 use Rattle.conf_laws.proofs.Readings.{optional_found, by_found, by_test}
-use Rattle.conf_laws.proofs.Sound.{Leads, RowsSound, needed_sound}
-use Rattle.conf_laws.proofs.Words.{IsWhole, IsPair, presence_under, Place, Whole, Needed, is_null, itself_of, Known, leaf_of, whole_from, is_power_of_two, divides, numbers_of, end_of, pair_of, single_of, range_of, is_number, here, index, whole_of, whole_or_not, wanted, at, OutOfRange, wanted_found, both_read, is_passed, read_there, ok_same, as_natural, natural_or_none, integer_or_none, Data, number, Num, Members, array, Items, no_items, item, as_integer, as_number, as_array, nat_tests, false≢true, and_parts, eqb-true, same_Some, is_alignment, alignment_of, alignment, natural, lowest, highest, integer_align, default_align, size_of, align_of}
+use Rattle.conf_laws.proofs.Sound.{HasRow, RowsSound, needed_sound}
+use Rattle.conf_laws.proofs.Words.{IsWhole, IsPair, Place, Whole, Needed, is_null, itself_of, Known, leaf_of, whole_from, is_power_of_two, divides, numbers_of, end_of, pair_of, single_of, range_of, is_number, here, index, whole_of, whole_or_not, wanted, at, OutOfRange, wanted_found, both_read, is_passed, read_there, ok_same, as_natural, natural_or_none, integer_or_none, Data, number, Num, Members, array, Items, no_items, item, as_integer, as_number, as_array, nat_tests, false≢true, and_parts, eqb-true, same_Some, is_alignment, alignment_of, alignment, natural, lowest, highest, integer_align, default_align, size_of, align_of}
 
 pub whole_there : (low high : ℤ) (found : Option ℤ) (z : ℤ) → whole_or_not low high found ≡ Ok z → (found ≡ Some z) × (int_le low z ≡ true) × (int_le z high ≡ true)
 whole_there low high None z e = absurd cc
@@ -13,17 +13,12 @@ whole_there low high (Some y) z e =
     (ap Some p.1, ap (int_le low) (sym p.1) ∙ b.0, ap (λ x. int_le x high) (sym p.1) ∙ b.1)
 
 -- a whole number that was read, and that it is between its bounds
-pub record WholeRead (low high : ℤ) (d : Data) (z : ℤ) : Type 0 where
-  pub whole : IsWhole d z
-  pub least : int_le low z ≡ true
-  pub most : int_le z high ≡ true
-
-pub whole_read : (low high : ℤ) (d : Data) (z : ℤ) → whole_of low high d ≡ Ok z → WholeRead low high d z
+pub whole_read : (low high : ℤ) (d : Data) (z : ℤ) → whole_of low high d ≡ Ok z → IsWhole d z × (int_le low z ≡ true) × (int_le z high ≡ true)
 unfolding whole_of
 whole_read low high d z e =
     let m = both_read (wanted (as_number d)) (λ n. whole_or_not low high (as_integer n)) z e in
     let there = whole_there low high (as_integer m.0) z m.2 in
-    record { whole = (m.0, wanted_found (as_number d) m.0 m.1, there.0); least = there.1; most = there.2 }
+    ((m.0, wanted_found (as_number d) m.0 m.1, there.0), there.1, there.2)
 
 -- the value is a whole number from low to high, a natural number
 abbrev NaturalIn : ℕ → ℕ → Data → Type 0
@@ -33,17 +28,18 @@ number_there : (d : Data) (m : Num) → as_number d ≡ Some m → is_null d ≡
 number_there (number n) m e = refl
 number_there _ m e = absurd cc
 
-natural_of_whole : (low high : ℕ) (d : Data) (z : ℤ) → WholeRead (pos low) (pos high) d z → high ≤ 18446744073709551615 → NaturalIn low high d
+natural_of_whole : (low high : ℕ) (d : Data) (z : ℤ) → IsWhole d z → int_le (pos low) z ≡ true → int_le z (pos high) ≡ true → high ≤ 18446744073709551615 → NaturalIn low high d
 unfolding as_natural
-natural_of_whole low high d (pos n) r most =
-    let small : nat_le n 18446744073709551615 ≡ true = le-leb n 18446744073709551615 (let b = leb-true n high r.most in omega arith) in
-    (n, ap natural_or_none (ap integer_or_none r.whole.1 ∙ r.whole.2) ∙ rw small refl, r.least, r.most, number_there d r.whole.0 r.whole.1)
-natural_of_whole low high d (negsuc n) r most = absurd (false≢true r.least)
+natural_of_whole low high d (pos n) whole least below most =
+    let small : nat_le n 18446744073709551615 ≡ true = le-leb n 18446744073709551615 (let b = leb-true n high below in omega arith) in
+    (n, ap natural_or_none (ap integer_or_none whole.1 ∙ whole.2) ∙ rw small refl, least, below, number_there d whole.0 whole.1)
+natural_of_whole low high d (negsuc n) whole least below most = absurd (false≢true least)
 
 natural_read : (low high : ℕ) (d : Data) → whole_from (pos low) (pos high) d ≡ Ok tt → high ≤ 18446744073709551615 → NaturalIn low high d
 unfolding whole_from
 natural_read low high d e most =
-    let read = both_read (whole_of (pos low) (pos high) d) (λ z. Ok tt) tt e in natural_of_whole low high d read.0 (whole_read (pos low) (pos high) d read.0 read.1) most
+    let read = both_read (whole_of (pos low) (pos high) d) (λ z. Ok tt) tt e in
+    let whole = whole_read (pos low) (pos high) d read.0 read.1 in natural_of_whole low high d read.0 whole.0 whole.1 whole.2 most
 
 pub natural_is_in : (low high : ℕ) (d : Data) (n : ℕ) → high ≤ 18446744073709551615 → whole_from (pos low) (pos high) d ≡ Ok tt → as_natural d ≡ Some n → (low ≤ n) × (n ≤ high)
 natural_is_in low high d n most e is =
@@ -51,13 +47,13 @@ natural_is_in low high d n most e is =
     let same = same_Some m n (sym read ∙ is) in
     (subst (λ x. low ≤ x) same (leb-true low m above), subst (λ x. x ≤ high) same (leb-true m high below))
 
-pub needed_natural : (k : Known) (place : Place) (name : List ℕ) (low high : ℕ) (ms : Members) → Leads place name (Whole (pos low) (pos high)) → presence_under place name ≡ Some Needed → RowsSound k place ms
+pub needed_natural : (k : Known) (place : Place) (name : List ℕ) (low high : ℕ) (ms : Members) → HasRow place name Needed (Whole (pos low) (pos high)) → RowsSound k place ms
     → high ≤ 18446744073709551615 → (n : ℕ) × (natural name ms ≡ Some n) × (nat_le low n ≡ true) × (nat_le n high ≡ true)
 unfolding itself_of leaf_of natural
-needed_natural k place name low high ms leads is h most =
-    let p = needed_sound k place name (Whole (pos low) (pos high)) ms leads is h in
-    let (n, read, above, below, there) = natural_read low high p.value p.sound.value.itself most in
-    (n, ap (option_and_then as_natural) (optional_found name ms p.value p.found there) ∙ read, above, below)
+needed_natural k place name low high ms row h most =
+    let (d, found, sound) = needed_sound k place name (Whole (pos low) (pos high)) ms row h in
+    let (n, read, above, below, there) = natural_read low high d sound.value.itself most in
+    (n, ap (option_and_then as_natural) (optional_found name ms d found there) ∙ read, above, below)
 
 -- ---- a number that is told
 
@@ -96,7 +92,7 @@ read_so (array ds) range e = pair_so ds range e
 read_so d range e = single_so d range e refl
 
 pub end_whole : (d : Data) (x : ℤ) → end_of d ≡ Ok x → IsWhole d x
-end_whole d x e = (whole_read lowest_end highest_end d x e).whole
+end_whole d x e = (whole_read lowest_end highest_end d x e).0
 
 -- ---- the numbers of an integer
 

@@ -2,8 +2,8 @@
 -- the properties of an object, as entries of a map, and as items of a list, where no limit is passed and names are in order.
 use Rattle.std.proofs.Common.{◌≡◌, ◌++◌, ℕ, Bool, true, false, List, [], Some, refl, subst, suc, ◌∷◌, length, Less, nat_cmp, ap, ◌&&◌, Option, sym, pos, option_and_then, unwrap_or, nat_le, le-leb, arith, codes, negsuc}
 use Rattle.conf_laws.proofs.Readings.{at_found, by_found}
-use Rattle.conf_laws.proofs.Sound.{both_none, first_none, optional_there, optional_sound, Leads, IsMapOf, IsObject, held_at}
-use Rattle.conf_laws.proofs.Words.{content_under, entries_of, presence_under, Place, At, Content, Needed, rows_of, Whole, Text, Level, WholeOrText, Entries, told_by, member_flaws, itself_of, Known, inside, behind, within_limit, fits, inner_limits, member_limits, key_fits, content_limits, item_limits, place_fits, arrays_fit, at_most, count_of, ranges_fit, item_content, place_of_properties, resolved_content, is_left_out, form_of, is_position, own_place, Flaw, key, within, index, AllAbove, IsInOrder, Ascends, MembersAscend, ItemsAscend, optional, Data, Members, member, Items, item, no_members, array, object, members_len, get_member, as_object, and_parts, and-false, bytes_eq, option_map_or, slice_cmp, IsStrictlySortedBy, AllByRecursion, object_at, properties, InByteOrder}
+use Rattle.conf_laws.proofs.Sound.{first_none, optional_there, optional_sound, HasRow, row_leads, IsMapOf, IsObject, held_at}
+use Rattle.conf_laws.proofs.Words.{Presence, content_under, entries_of, presence_under, Place, At, Content, rows_of, WholeOrText, Entries, told_by, member_flaws, itself_of, Known, inside, within_limit, fits, inner_limits, member_limits, key_fits, content_limits, item_limits, place_fits, arrays_fit, at_most, count_of, ranges_fit, item_content, place_of_properties, resolved_content, is_left_out, form_of, is_position, own_place, Flaw, key, within, index, AllAbove, IsInOrder, Ascends, MembersAscend, ItemsAscend, optional, Data, Members, member, Items, item, no_members, array, object, members_len, get_member, as_object, and_parts, and-false, bytes_eq, option_map_or, slice_cmp, IsStrictlySortedBy, AllByRecursion, object_at, properties, InByteOrder}
 use Rattle.conf_laws.proofs.Words.contents
 use Rattle.conf_laws.proofs.Words.places
 
@@ -11,58 +11,6 @@ use Rattle.conf_laws.proofs.Words.places
 pub record IsOwn (place : Place) : Type 0 where
   pub own : (ms : Members) → place_of_properties place ms ≡ place
   pub known : (k : Known) (ms : Members) → inside place ms k ≡ k
-
--- whether it has to be there, its place, its name and what it holds
-pub data Property : Bool → Place → List ℕ → Content → Type 0 where
-  trace : Property true places.Root (codes "trace") (At places.Trace)
-  environment : Property false places.Trace (codes "environment") (At places.Environment)
-  trace_type : Property true places.Trace (codes "type") (At places.TraceType)
-  clock_types : Property false places.TraceType (codes "clock-types") (At places.ClockTypes)
-  stream_types : Property false places.TraceType (codes "data-stream-types") (At places.StreamTypes)
-  trace_features : Property false places.TraceType (codes "$features") (At places.TraceFeatures)
-  magic : Property false places.TraceFeatures (codes "magic-field-type") (At places.MagicFeature)
-  uuid : Property false places.TraceFeatures (codes "uuid-field-type") (At places.IdentifierFeature)
-  stream_id : Property false places.TraceFeatures (codes "data-stream-type-id-field-type") (At places.Feature)
-  description : Property false places.ClockType (codes "description") (Text 4096)
-  frequency : Property false places.ClockType (codes "frequency") (Whole (pos 1) (pos 18446744073709551615))
-  stream_features : Property false places.StreamType (codes "$features") (At places.StreamFeatures)
-  extras : Property false places.StreamType (codes "packet-context-field-type-extra-members") (At places.ExtraMembers)
-  common : Property false places.StreamType (codes "event-record-common-context-field-type") (At places.StructureType)
-  event_types : Property false places.StreamType (codes "event-record-types") (At places.EventTypes)
-  packet : Property false places.StreamFeatures (codes "packet") (At places.PacketFeatures)
-  event_record : Property false places.StreamFeatures (codes "event-record") (At places.EventRecordFeatures)
-  total_size : Property false places.PacketFeatures (codes "total-size-field-type") (At places.SizeFeature)
-  content_size : Property false places.PacketFeatures (codes "content-size-field-type") (At places.SizeFeature)
-  beginning : Property false places.PacketFeatures (codes "beginning-timestamp-field-type") (At places.Feature)
-  end : Property false places.PacketFeatures (codes "end-timestamp-field-type") (At places.Feature)
-  discarded : Property false places.PacketFeatures (codes "discarded-event-records-counter-snapshot-field-type") (At places.Feature)
-  sequence : Property false places.PacketFeatures (codes "sequence-number-field-type") (At places.Feature)
-  event_id : Property false places.EventRecordFeatures (codes "type-id-field-type") (At places.Feature)
-  timestamp : Property false places.EventRecordFeatures (codes "timestamp-field-type") (At places.Feature)
-  level : Property false places.EventType (codes "log-level") (Level (pos 9223372036854775807))
-  specific : Property false places.EventType (codes "specific-context-field-type") (At places.StructureType)
-  payload : Property false places.EventType (codes "payload-field-type") (At places.StructureType)
-  members : Property false places.Structure (codes "members") (At places.Members)
-  type_of_member : Property true places.Member (codes "field-type") (At places.MemberType)
-  dynamic_element : Property true places.DynamicArray (codes "element-field-type") (At places.DynamicElementType)
-  static_length : Property true places.StaticArray (codes "length") (Whole (pos 0) (pos 1048576))
-  element : Property true places.StaticArray (codes "element-field-type") (At places.ElementType)
-  unsigned_size : Property true places.UnsignedInteger (codes "size") (Whole (pos 1) (pos 64))
-  signed_size : Property true places.SignedInteger (codes "size") (Whole (pos 1) (pos 64))
-  unsigned_enumeration_size : Property true places.UnsignedEnumeration (codes "size") (Whole (pos 1) (pos 64))
-  signed_enumeration_size : Property true places.SignedEnumeration (codes "size") (Whole (pos 1) (pos 64))
-  unsigned_mappings : Property true places.UnsignedEnumeration (codes "mappings") (At places.Mappings)
-  signed_mappings : Property true places.SignedEnumeration (codes "mappings") (At places.Mappings)
-
-pub leads : {b : Bool} {place : Place} {name : List ℕ} {content : Content} → Property b place name content → Leads place name content
-unfolding behind resolved_content content_under presence_under entries_of rows_of
-leads Property.trace = record { plain = λ d k. refl; resolved = refl; under = refl }
-leads _ = record { plain = λ d k. refl; resolved = refl; under = refl }
-
-pub needed_by : {place : Place} {name : List ℕ} {content : Content} → Property true place name content → presence_under place name ≡ Some Needed
-unfolding presence_under rows_of
-needed_by Property.trace = refl
-needed_by _ = refl
 
 -- a place whose rows are its own, and whether objects of any kind stand there
 pub data OwnPlace : Bool → Place → Type 0 where
@@ -113,9 +61,9 @@ is_map _ = record { under = λ name. refl; resolved = λ name. rw (and-false (by
 
 -- ---- no limit is passed, and names are in order
 
-pub within_none : (b : Bool) → told_by (within_limit b) ≡ [] → b ≡ true
-within_none true e = refl
-within_none false e = absurd cc
+pub fits_there : (b : Bool) (xs : List Flaw) → told_by (within_limit b) ++ xs ≡ [] → (b ≡ true) × (xs ≡ [])
+fits_there true xs e = (refl, e)
+fits_there false xs e = absurd cc
 
 -- by a value, and by what it holds
 pub record IsWithin (content : Content) (d : Data) : Type 0 where
@@ -124,7 +72,7 @@ pub record IsWithin (content : Content) (d : Data) : Type 0 where
   pub ascends : Ascends d
 
 pub is_within : (content : Content) (d : Data) → content_limits content d ≡ [] → Ascends d → IsWithin content d
-is_within content d e ascends = let both = both_none (told_by (within_limit (fits content d))) _ e in record { fitting = within_none _ both.0; inner = both.1; ascends = ascends }
+is_within content d e ascends = let both = fits_there (fits content d) _ e in record { fitting = both.0; inner = both.1; ascends = ascends }
 
 -- by the properties of an object at this place
 pub record AreWithin (place : Place) (ms : Members) : Type 0 where
@@ -149,7 +97,7 @@ limits_at place name d = told_by (within_limit (key_fits place name)) ++ (told_b
 
 value_within : (place : Place) (name : List ℕ) (content : Content) (d : Data) → content_under place name ≡ Some content → limits_at place name d ≡ [] → Ascends d → IsWithin content d
 value_within place name content d under e ascends =
-    is_within content d (subst (λ o. content_limits (unwrap_or o contents.Anything) d ≡ []) under (both_none (told_by (within_limit (key_fits place name))) _ e).1) ascends
+    is_within content d (subst (λ o. content_limits (unwrap_or o contents.Anything) d ≡ []) under (fits_there (key_fits place name) _ e).1) ascends
 
 -- the first property, and those behind it
 pub first_limits : (place : Place) (name : List ℕ) (d : Data) (ms : Members) → member_limits place (member name d ms) ≡ [] → (limits_at place name d ≡ []) × (member_limits place ms ≡ [])
@@ -160,19 +108,19 @@ pub first_item_limits : (place : Place) (i : ℕ) (d : Data) (ds : Items) → it
 first_item_limits place i d ds e = first_none (within (index i)) (content_limits (item_content place) d) _ e
 
 -- what a property is that is there
-pub property_within : {b : Bool} {place : Place} {name : List ℕ} {content : Content} → Property b place name content → (ms : Members) (d : Data) → AreWithin place ms → get_member name ms ≡ Some d → IsWithin content d
-property_within {place = place} {name = name} {content = content} property ms d h found =
-    value_within place name content d (leads property).under (at_found (λ xs. member_limits place xs ≡ []) (λ n x. limits_at place n x ≡ []) (first_limits place) name ms d h.limits found)
+pub property_within : (place : Place) (name : List ℕ) {presence : Presence} (content : Content) → HasRow place name presence content → (ms : Members) (d : Data) → AreWithin place ms → get_member name ms ≡ Some d → IsWithin content d
+property_within place name content row ms d h found =
+    value_within place name content d (row_leads place name _ row.0).1 (at_found (λ xs. member_limits place xs ≡ []) (λ n x. limits_at place n x ≡ []) (first_limits place) name ms d h.limits found)
     (at_found MembersAscend (λ n x. Ascends x) (λ n x xs each. each) name ms d h.ascend found)
 
-pub optional_within : {b : Bool} {place : Place} {name : List ℕ} {content : Content} → Property b place name content → (ms : Members) (d : Data) → AreWithin place ms → optional name ms ≡ Some d → IsWithin content d
-optional_within {name = name} property ms d h there = property_within property ms d h (optional_there name ms d there).0
+pub optional_within : (place : Place) (name : List ℕ) {presence : Presence} (content : Content) → HasRow place name presence content → (ms : Members) (d : Data) → AreWithin place ms → optional name ms ≡ Some d → IsWithin content d
+optional_within place name content row ms d h there = property_within place name content row ms d h (optional_there name ms d there).0
 
 -- the first entry of a map, and those behind it
 pub entry_within : {place : Place} {content : Content} → MapPlace place content → (name : List ℕ) (d : Data) (ms : Members) → AreWithin place (member name d ms) → IsWithin content d × (key_fits place name ≡ true) × AreWithin place ms
 entry_within {place = place} {content = content} map name d ms h =
     let first = first_limits place name d ms h.limits in
-    (value_within place name content d ((is_map map).under name) first.0 h.ascend.0, within_none _ (both_none (told_by (within_limit (key_fits place name))) _ first.0).0, record { limits = first.1; in_order = h.in_order.1; ascend = h.ascend.1 })
+    (value_within place name content d ((is_map map).under name) first.0 h.ascend.0, (fits_there (key_fits place name) _ first.0).0, record { limits = first.1; in_order = h.in_order.1; ascend = h.ascend.1 })
 
 -- the first item of a list, and those behind it
 pub item_within : (place : Place) (i : ℕ) (d : Data) (ds : Items) → AreItemsWithin place i (item d ds) → IsWithin (item_content place) d × AreItemsWithin place (suc i) ds
@@ -212,17 +160,17 @@ object_or_none place (object ms) own h = (object_within place place ms (own.own 
 object_or_none place _ own h = (record { limits = refl; in_order = tt; ascend = tt }, none_fit (entries_of place))
 
 -- the properties of an object or the entries of a map, no more than the place allows; left out, there are none
-pub all_within : {b : Bool} {place inner : Place} {name : List ℕ} → Property b place name (At inner) → OwnPlace true inner → (ms : Members) → AreWithin place ms
+pub all_within : (place : Place) {inner : Place} (name : List ℕ) {presence : Presence} → HasRow place name presence (At inner) → OwnPlace true inner → (ms : Members) → AreWithin place ms
     → AreWithin inner (properties name ms) × (at_most (entries_of inner) (members_len (properties name ms)) ≡ true)
 unfolding properties object_at
-all_within {inner = inner} {name = name} property own ms h =
+all_within place {inner = inner} name row own ms h =
     by_found (λ (o : Option Data). AreWithin inner (unwrap_or (option_and_then as_object o) no_members) × (at_most (entries_of inner) (members_len (unwrap_or (option_and_then as_object o) no_members)) ≡ true)) (optional name ms)
-    (λ is. (record { limits = refl; in_order = tt; ascend = tt }, none_fit (entries_of inner))) (λ d is. object_or_none inner d (is_own own) (optional_within property ms d h is))
+    (λ is. (record { limits = refl; in_order = tt; ascend = tt }, none_fit (entries_of inner))) (λ d is. object_or_none inner d (is_own own) (optional_within place name (At inner) row ms d h is))
 
 -- the properties of an object that has no flaw have none; left out, there are none
-pub flaws_in : (k : Known) {b : Bool} {around inner : Place} {name : List ℕ} → Property b around name (At inner) → OwnPlace true inner → (ms : Members) → member_flaws k around ms ≡ [] → member_flaws k inner (properties name ms) ≡ []
+pub flaws_in : (k : Known) (around : Place) {inner : Place} (name : List ℕ) {presence : Presence} → HasRow around name presence (At inner) → OwnPlace true inner → (ms : Members) → member_flaws k around ms ≡ [] → member_flaws k inner (properties name ms) ≡ []
 unfolding properties object_at
-flaws_in k {around = around} {inner = inner} {name = name} property own ms f =
+flaws_in k around {inner = inner} name row own ms f =
     by_found (λ (o : Option Data). member_flaws k inner (unwrap_or (option_and_then as_object o) no_members) ≡ []) (optional name ms) (λ is. refl) (λ d is.
-    let (os, same, rows) = held_at k inner d (is_object own) (optional_sound k around name (At inner) ms d (leads property) f is).value in
+    let (os, same, rows) = held_at k inner d (is_object own) (optional_sound k around name (At inner) ms d row f is).value in
     subst (λ x. member_flaws k inner (unwrap_or (as_object x) no_members) ≡ []) (sym same) (subst (λ j. member_flaws j inner os ≡ []) ((is_own own).known k os) rows.flaws))

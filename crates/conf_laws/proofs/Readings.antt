@@ -1,7 +1,8 @@
 -- What small steps and readings say that went well; what is computed from the first property of a name; and what holds of a field type
 -- where it holds of its element.
-use Rattle.std.proofs.Common.{◌≡◌, ℕ, Bool, true, false, List, Option, Some, None, is_some, refl, ap, [], ◌∷◌, ◌++◌, cond, Ok, Err, Ordering, Less, Equal, Greater, nat_cmp, is_eq, sym, subst, ◌∙◌, option_map, option_and_then, codes}
-use Rattle.conf_laws.proofs.Words.{is_null, only_if, times, elements, elements_in_array, natural_in, has_bits, element_has_bits, Flaw, given, optional, proved, as_natural, Data, string, object, Members, null, no_members, member, get_member, as_object, as_str, false≢true, nat_list_cmp_total, tied_itself, is_eq-slice_cmp, same_Some, bytes_eq-Decides, slice_cmp, AllByRecursion, option_map_or, match_ordering, bytes_eq, field_type, element, natural}
+use Rattle.std.proofs.Common.{◌≡◌, ℕ, Bool, true, false, List, Option, Some, None, is_some, refl, ap, [], ◌∷◌, ◌++◌, cond, Ok, Err, Ordering, Less, Equal, Greater, nat_cmp, is_eq, sym, subst, ◌∙◌, inl, inr, option_map, option_and_then, codes}
+use Rattle.conf_laws.proofs.Words.{is_null, HasMember, Place, is_unsigned_integer, is_static_array, is_dynamic_array, times, elements, elements_in_array, natural_in, has_bits, element_has_bits, Flaw, given, optional, proved, as_natural, Data, string, object, Members, null, no_members, member, get_member, as_object, as_str, false≢true, nat_list_cmp_total, tied_itself, is_eq-slice_cmp, same_Some, bytes_eq-Decides, slice_cmp, AllByRecursion, option_map_or, match_ordering, bytes_eq, field_type, element, natural}
+use Rattle.conf_laws.proofs.Words.places
 
 pub some_none : {A P : Type 0} (o : Option A) (x : A) → o ≡ Some x → o ≡ None → P
 some_none o x p q = absurd cc
@@ -57,9 +58,22 @@ same_natural name ms = given_natural (get_member name ms)
 
 -- ---- tests
 
-pub was_so : (b : Bool) → only_if b ≡ Ok tt → b ≡ true
-was_so true e = refl
-was_so false e = absurd cc
+-- a class that is told is the one that it is
+pub class_told : (is_such : Place → Bool) (class : Place) → ((c : Place) → is_such c ≡ true → c ≡ class) → (o : Option Place) → option_map_or is_such o false ≡ true → o ≡ Some class
+class_told is_such class same (Some c) e = ap Some (same c e)
+class_told is_such class same None e = absurd cc
+
+pub only_unsigned : (c : Place) → is_unsigned_integer c ≡ true → c ≡ places.UnsignedInteger
+only_unsigned places.UnsignedInteger e = refl
+only_unsigned _ e = absurd cc
+
+pub only_static : (c : Place) → is_static_array c ≡ true → c ≡ places.StaticArray
+only_static places.StaticArray e = refl
+only_static _ e = absurd cc
+
+pub only_dynamic : (c : Place) → is_dynamic_array c ≡ true → c ≡ places.DynamicArray
+only_dynamic places.DynamicArray e = refl
+only_dynamic _ e = absurd cc
 
 -- what is answered where a test fails
 pub under_no_test : {A : Type 0} (b : Bool) (x y : A) (flaw : Flaw) → cond b (Err flaw) (Ok x) ≡ Ok y → b ≡ false
@@ -80,39 +94,34 @@ pub same_name : (a b : List ℕ) → slice_cmp nat_cmp a b ≡ Equal → a ≡ b
 same_name a b e = (bytes_eq-Decides a b).0 (sym (is_eq-slice_cmp a b) ∙ ap is_eq e)
 
 -- the first member of a name is found, and another one is passed over
-pub found_first : (name k : List ℕ) (d : Data) (ms : Members) → bytes_eq k name ≡ true → get_member name (member k d ms) ≡ Some d
-found_first name k d ms e =
-    let same : k ≡ name = (bytes_eq-Decides k name).0 e in
-    ap (λ o. match_ordering o (get_member name ms) (Some d) (get_member name ms)) (ap (slice_cmp nat_cmp name) same ∙ tied_itself nat_list_cmp_total name)
-
-pub found_later : (name k : List ℕ) (d : Data) (ms : Members) → bytes_eq k name ≡ false → get_member name (member k d ms) ≡ get_member name ms
-found_later name k d ms e = go (slice_cmp nat_cmp name k) refl
+found_here : (name k : List ℕ) (d : Data) (ms : Members) → get_member name (member k d ms) ≡ cond (bytes_eq k name) (Some d) (get_member name ms)
+found_here name k d ms = by_test (λ (b : Bool). get_member name (member k d ms) ≡ cond b (Some d) (get_member name ms)) (bytes_eq k name) (λ is.
+    let same : k ≡ name = (bytes_eq-Decides k name).0 is in
+    ap (λ o. match_ordering o (get_member name ms) (Some d) (get_member name ms)) (ap (slice_cmp nat_cmp name) same ∙ tied_itself nat_list_cmp_total name)) (λ other. go other (slice_cmp nat_cmp name k) refl)
   where
-    go : (o : Ordering) → slice_cmp nat_cmp name k ≡ o → match_ordering o (get_member name ms) (Some d) (get_member name ms) ≡ get_member name ms
-    go Less c = refl
-    go Equal c = absurd (false≢true (sym e ∙ (bytes_eq-Decides k name).1 (sym (same_name name k c))))
-    go Greater c = refl
+    go : bytes_eq k name ≡ false → (o : Ordering) → slice_cmp nat_cmp name k ≡ o → match_ordering o (get_member name ms) (Some d) (get_member name ms) ≡ get_member name ms
+    go other Less c = refl
+    go other Equal c = absurd (false≢true (sym other ∙ (bytes_eq-Decides k name).1 (sym (same_name name k c))))
+    go other Greater c = refl
 
 -- what is computed from the first property of a name, and else from none
 pub at_name : {X : Type 0} (name : List ℕ) (walk : Members → X) (made : Option Data → X) → walk no_members ≡ made None → ((k : List ℕ) (d : Data) (ms : Members) → walk (member k d ms) ≡ cond (bytes_eq k name) (made (Some d)) (walk ms))
     → (ms : Members) → walk ms ≡ made (get_member name ms)
 at_name name walk made none step no_members = none
-at_name name walk made none step (member k d ms) = step k d ms ∙ go (bytes_eq k name) refl (at_name name walk made none step ms)
-  where
-    go : (b : Bool) → bytes_eq k name ≡ b → walk ms ≡ made (get_member name ms) → cond b (made (Some d)) (walk ms) ≡ made (get_member name (member k d ms))
-    go true is later = ap made (sym (found_first name k d ms is))
-    go false is later = later ∙ ap made (sym (found_later name k d ms is))
+at_name name walk made none step (member k d ms) =
+    step k d ms ∙ by_test (λ (b : Bool). cond b (made (Some d)) (walk ms) ≡ made (cond b (Some d) (get_member name ms))) (bytes_eq k name) (λ is. refl) (λ is. at_name name walk made none step ms) ∙ ap made (sym (found_here name k d ms))
 
--- what holds of each property and of those behind it holds of the one that is found
+-- what holds of each property and of those behind it holds of each one, and of the one that is found
 module _ (P : Members → Type 0) (Q : List ℕ → Data → Type 0) (each : (k : List ℕ) (d : Data) (ms : Members) → P (member k d ms) → Q k d × P ms) where
+  pub at_member : (name : List ℕ) (ms : Members) (d : Data) → P ms → HasMember name d ms → Q name d
+  at_member name no_members d h has = absurd has
+  at_member name (member k e ms) d h (inl (same, is)) = subst (λ n. Q n d) (sym same) (subst (λ x. Q k x) (sym is) (each k e ms h).0)
+  at_member name (member k e ms) d h (inr has) = at_member name ms d (each k e ms h).1 has
+
   pub at_found : (name : List ℕ) (ms : Members) (d : Data) → P ms → get_member name ms ≡ Some d → Q name d
   at_found name no_members d h is = absurd cc
-  at_found name (member k e ms) d h is = go (slice_cmp nat_cmp name k) refl is (λ later. at_found name ms d (each k e ms h).1 later)
-    where
-      go : (o : Ordering) → slice_cmp nat_cmp name k ≡ o → match_ordering o (get_member name ms) (Some e) (get_member name ms) ≡ Some d → (get_member name ms ≡ Some d → Q name d) → Q name d
-      go Less c f later = later f
-      go Greater c f later = later f
-      go Equal c f later = let value : e ≡ d = cc in subst (λ x. Q name x) value (subst (λ n. Q n e) (sym (same_name name k c)) (each k e ms h).0)
+  at_found name (member k e ms) d h is = by_test (λ (b : Bool). cond b (Some e) (get_member name ms) ≡ Some d → Q name d) (bytes_eq k name)
+      (λ same f. let value : e ≡ d = cc in subst (λ x. Q name x) value (subst (λ n. Q n e) ((bytes_eq-Decides k name).0 same) (each k e ms h).0)) (λ other f. at_found name ms d (each k e ms h).1 f) (sym (found_here name k e ms) ∙ is)
 
 pub element_is : (ms : Members) → element ms ≡ option_and_then field_type (get_member (codes "element-field-type") ms)
 element_is ms = at_name (codes "element-field-type") element (option_and_then field_type) refl (λ k d rest. refl) ms

@@ -2,7 +2,7 @@
 -- property that is there is what its row asks for.
 use Rattle.std.proofs.Common.{codes, unwrap_or, arith, ◌≡◌, ◌++◌, ℕ, Bool, true, false, cond, List, [], ◌∷◌, map, Option, Some, None, Result, Ok, Err, refl, sym, subst, ◌∙◌, suc, option_map, option_and_then, ap}
 use Rattle.conf_laws.proofs.Readings.{at_found, optional_found, by_found, by_test}
-use Rattle.conf_laws.proofs.Words.{class_words, class_in, admits_class, presence_under, Told, rows_of, row_in, content_under, Place, At, Content, Needed, Presence, class_named, class_of, class_said, told_by, class_rule, all_there, resolved_content, is_left_out, left_out, is_needed, is_null, property_flaws, inner_flaws, member_flaws, content_flaws, item_flaws, rows_there, row_there, orders_there, admitted, other_class, itself_of, any_object, Known, inside, behind, with_taken, key_of, with_names, place_of_properties, item_content, is_position, own_place, shape_of, is_unsigned_integer, Flaw, key, within, index, here, optional, given, ◌>>=◌, at, needed, text_of, wanted_found, found_there, both_read, read_there, is_passed, Data, null, object, Members, member, Items, item, get_member, as_object, as_str, nat_tests, bytes_eq-Decides, bytes_eq, object_at as object_in, ⊤}
+use Rattle.conf_laws.proofs.Words.{entries_of, class_words, class_in, admits_class, presence_under, Told, rows_of, row_in, content_under, Place, At, Content, Needed, Presence, class_named, class_of, class_said, told_by, class_rule, all_there, resolved_content, is_left_out, left_out, is_needed, is_null, property_flaws, inner_flaws, member_flaws, content_flaws, item_flaws, rows_there, row_there, orders_there, admitted, other_class, itself_of, any_object, Known, inside, behind, with_taken, key_of, with_names, place_of_properties, item_content, is_position, own_place, shape_of, Flaw, key, within, index, here, optional, given, ◌>>=◌, at, needed, text_of, wanted_found, found_there, both_read, read_there, is_passed, Data, null, object, Members, member, Items, item, get_member, as_object, as_str, nat_tests, bytes_eq-Decides, bytes_eq, object_at as object_in, ⊤}
 use Rattle.conf_laws.proofs.Words.places
 use Rattle.conf_laws.proofs.Words.contents
 
@@ -69,23 +69,24 @@ pub first_item : (k : Known) (place : Place) (taken : Members) (i : ℕ) (d : Da
     → (content_flaws (with_taken taken k) (item_content place) d ≡ []) × (item_flaws k place (with_names d taken) (suc i) ds ≡ [])
 first_item k place taken i d ds e = first_none (within (index i)) (content_flaws (with_taken taken k) (item_content place) d) _ e
 
--- a place whose entries say nothing of one another
-abbrev pub IsPlain : Place → Type 0
-IsPlain place = (d : Data) (k : Known) → behind place d k ≡ k
+-- a row of the place tells of a property of this name, of which an object does not inherit
+abbrev pub HasRow : Place → List ℕ → Presence → Content → Type 0
+HasRow place name presence content = (row_in name (rows_of place) ≡ Some (record { name = name; presence = presence; content = content })) × (bytes_eq name (codes "$inherit") ≡ false)
 
--- a property of this place, whose entries say nothing of one another
-pub record Leads (place : Place) (name : List ℕ) (content : Content) : Type 0 where
-  pub plain : IsPlain place
-  pub resolved : resolved_content place name ≡ Some content
-  pub under : content_under place name ≡ Some content
+-- a place with rows is no map, whose entries would say something of one another
+pub row_leads : (place : Place) (name : List ℕ) (row : Told) → row_in name (rows_of place) ≡ Some row → ((d : Data) (k : Known) → behind place d k ≡ k) × (content_under place name ≡ Some row.content)
+unfolding behind content_under entries_of rows_of
+row_leads places.Root name row is = (λ d k. refl, ap (option_map (λ (r : Told). r.content)) is)
+row_leads _ name row is = let leads = ap (option_map (λ (r : Told). r.content)) is in (λ d k. cc, cc)
 
-pub property_sound : (k : Known) (place : Place) (name : List ℕ) (content : Content) (ms : Members) (d : Data) → Leads place name content
+pub property_sound : (k : Known) (place : Place) (name : List ℕ) {presence : Presence} (content : Content) (ms : Members) (d : Data) → HasRow place name presence content
     → member_flaws k place ms ≡ [] → get_member name ms ≡ Some d → is_left_out place name d ≡ false → PropertySound k place name content d
-property_sound k place name content ms d leads e found there =
-    property_here k place name content d leads.resolved there (at_found (λ xs. member_flaws k place xs ≡ []) (λ n x. flaws_at k place n x ≡ []) each name ms d e found)
+unfolding resolved_content
+property_sound k place name content ms d row e found there =
+    property_here k place name content d (rw row.1 (row_leads place name _ row.0).1) there (at_found (λ xs. member_flaws k place xs ≡ []) (λ n x. flaws_at k place n x ≡ []) each name ms d e found)
   where
     each : (n : List ℕ) (x : Data) (xs : Members) → member_flaws k place (member n x xs) ≡ [] → (flaws_at k place n x ≡ []) × (member_flaws k place xs ≡ [])
-    each n x xs f = let parts = first_flaws k place n x xs f in (parts.0, subst (λ j. member_flaws j place xs ≡ []) (leads.plain x k) parts.1)
+    each n x xs f = let parts = first_flaws k place n x xs f in (parts.0, subst (λ j. member_flaws j place xs ≡ []) ((row_leads place name _ row.0).0 x k) parts.1)
 
 -- ---- a property that may be left out
 
@@ -102,11 +103,11 @@ not_left_out None d e = refl
 not_left_out (Some p) d e = grind (arith, nat_tests)
 
 -- a property that is there and is not null is sound at what it is
-pub optional_sound : (k : Known) (place : Place) (name : List ℕ) (content : Content) (ms : Members) (d : Data) → Leads place name content
+pub optional_sound : (k : Known) (place : Place) (name : List ℕ) {presence : Presence} (content : Content) (ms : Members) (d : Data) → HasRow place name presence content
     → member_flaws k place ms ≡ [] → optional name ms ≡ Some d → PropertySound k place name content d
 unfolding is_left_out
-optional_sound k place name content ms d leads e found =
-    let o = optional_there name ms d found in property_sound k place name content ms d leads e o.0 (not_left_out (presence_under place name) d o.1)
+optional_sound k place name content ms d row e found =
+    let o = optional_there name ms d found in property_sound k place name content ms d row e o.0 (not_left_out (presence_under place name) d o.1)
 
 -- ---- an object at a property
 
@@ -145,31 +146,11 @@ found_among name ms (r ∷ rows) row e f needed =
     subst (λ n. (d : Data) × (get_member n ms ≡ Some d)) ((bytes_eq-Decides r.name name).0 is) (row_found r ms (ap (λ x. is_needed x.presence) same ∙ needed) parts.1))
     (λ is g. found_among name ms rows row parts.2 g needed) f
 
-module _ (place : Place) (name : List ℕ) (ms : Members) where
-  pub needed_there : presence_under place name ≡ Some Needed → all_there place ms ≡ Ok tt → (d : Data) × (get_member name ms ≡ Some d)
-  unfolding presence_under all_there
-  needed_there is there =
-      by_found (λ (o : Option Told). option_map (λ r. r.presence) o ≡ Some Needed → (d : Data) × (get_member name ms ≡ Some d)) (row_in name (rows_of place))
-      (λ f g. absurd cc) (λ row f g.
-      let same : row.presence ≡ Needed = cc in
-      let parts = both_read (rows_there ms (rows_of place)) (λ _. orders_there place ms) tt there in
-      found_among name ms (rows_of place) row parts.1 f (ap is_needed same)) is
-
--- a needed property is never left out
-pub needed_kept : (place : Place) (name : List ℕ) (d : Data) → presence_under place name ≡ Some Needed → is_left_out place name d ≡ false
-unfolding is_left_out
-needed_kept place name d is = ap (λ o. left_out o d) is
-
-pub record NeededSound (k : Known) (place : Place) (name : List ℕ) (content : Content) (ms : Members) : Type 0 where
-  pub value : Data
-  pub found : get_member name ms ≡ Some value
-  pub sound : PropertySound k place name content value
-
-pub needed_sound : (k : Known) (place : Place) (name : List ℕ) (content : Content) (ms : Members) → Leads place name content → presence_under place name ≡ Some Needed → RowsSound k place ms
-    → NeededSound k place name content ms
-needed_sound k place name content ms leads is h =
-    let f = needed_there place name ms is h.there in
-    record { value = f.0; found = f.1; sound = property_sound k place name content ms f.0 leads h.flaws f.1 (needed_kept place name f.0 is) }
+pub needed_sound : (k : Known) (place : Place) (name : List ℕ) (content : Content) (ms : Members) → HasRow place name Needed content → RowsSound k place ms → (d : Data) × (get_member name ms ≡ Some d) × PropertySound k place name content d
+unfolding all_there is_left_out presence_under
+needed_sound k place name content ms row h =
+    let (d, found) = found_among name ms (rows_of place) _ (both_read (rows_there ms (rows_of place)) (λ _. orders_there place ms) tt h.there).1 row.0 refl in
+    (d, found, property_sound k place name content ms d row h.flaws found (ap (λ o. left_out (option_map (λ (r : Told). r.presence) o) d) row.0))
 
 -- ---- the entries of a map
 
@@ -197,10 +178,6 @@ has_class place ms position e =
     let w = both_read (at (key (codes "class")) (text_of d.0)) _ tt d.2 in
     let c = admitted_class place (class_in w.0 class_words) w.2 in
     (c.0, ap class_said (found_there (codes "class") ms d.0 d.1) ∙ ap class_named (wanted_found (as_str d.0) w.0 (read_there (key (codes "class")) (text_of d.0) w.0 w.1)) ∙ c.1, c.2)
-
-pub unsigned_told : (o : Option Place) → is_unsigned_integer o ≡ true → o ≡ Some places.UnsignedInteger
-unsigned_told (Some places.UnsignedInteger) e = refl
-unsigned_told _ e = absurd cc
 
 -- ---- a field type where one may stand
 
@@ -231,12 +208,12 @@ pub record IsObject (place : Place) : Type 0 where
 pub held_at : (k : Known) (place : Place) (d : Data) → IsObject place → ContentSound k (At place) d → (ms : Members) × (d ≡ object ms) × RowsSound (inside place ms k) place ms
 held_at k place d o h = let (ms, is, sound) = object_at k place d h (o.form k d) in (ms, is, rows_sound k place place ms (o.own ms) sound)
 
-module _ (k : Known) (around place : Place) (name : List ℕ) (ms : Members) (leads : Leads around name (At place)) (o : IsObject place) (h : RowsSound k around ms) where
+module _ (k : Known) (around place : Place) (name : List ℕ) (ms : Members) (row : HasRow around name Needed (At place)) (o : IsObject place) (h : RowsSound k around ms) where
   -- a needed object is there
-  pub needed_object : presence_under around name ≡ Some Needed → (os : Members) × (object_in name ms ≡ Some os) × RowsSound (inside place os k) place os
+  pub needed_object : (os : Members) × (object_in name ms ≡ Some os) × RowsSound (inside place os k) place os
   unfolding object_in
-  needed_object is =
-      let p = needed_sound k around name (At place) ms leads is h in
-      let (os, same, rows) = held_at k place p.value o p.sound.value in
-      let found = optional_found name ms (object os) (p.found ∙ ap Some same) refl in
+  needed_object =
+      let (d, there, sound) = needed_sound k around name (At place) ms row h in
+      let (os, same, rows) = held_at k place d o sound.value in
+      let found = optional_found name ms (object os) (there ∙ ap Some same) refl in
       (os, ap (option_and_then as_object) found, rows)

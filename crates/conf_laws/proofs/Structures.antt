@@ -5,10 +5,10 @@ use Rattle.conf_laws.proofs.Agreement.{taken_put}
 use Rattle.conf_laws.proofs.AllowedMaps.{plain_name}
 use Rattle.conf_laws.proofs.FieldTypes.{bits_allowed, nest_allowed, type_says}
 use Rattle.conf_laws.proofs.Numbers.{IsAlignment, alignment_or}
-use Rattle.conf_laws.proofs.Properties.{IsWithin, AreWithin, AreItemsWithin, object_within, list_within, property_within, optional_within, entry_within, item_within, fitting_parts, Property, leads, needed_by, MapPlace, is_map, OwnPlace, is_own}
-use Rattle.conf_laws.proofs.Readings.{Says, proved_says, element_is, all_joined, under_no_test, optional_found, some_there, was_so, by_found, by_test}
-use Rattle.conf_laws.proofs.Sound.{RowsSound, ContentSound, ObjectSound, object_sound, needed_sound, type_sound, class_place, object_at, content_sound, first_item, rows_sound, first_entry, optional_sound}
-use Rattle.conf_laws.proofs.Words.{admits_class, is_dynamic_array, Place, At, entries_of, at_most, itself_of, form_of, Known, inside, is_position, inner_flaws, item_flaws, member_flaws, nothing, with_taken, take, is_taken, key_of, key_by, free_of, is_dynamic, class_of, class_of_member, elements, fits, arrays_fit, is_outermost, shape_of, with_names, names_beside, own_place, place_of_properties, item_content, Members, Data, object, get_member, optional, here, WrongKind, is_passed, members_len, items_len, both_read, plain_name_of, Items, no_items, item, no_members, member, array, as_array, as_object, eqb-true, false≢true, or_parts, All-push, All-nil, All-from_recursion, map-append, bytes_eq-Decides, IsDistinct, option_map_or, AllByRecursion, list_any, bytes_eq, field_type, element, object_at as object_named, list as list_in, member_type, member_said as member_of, behind_done, members_behind, made, align_for, listed, align_of, structure_of, structure, extra_members, names_in, own_names, IsPlainName, IsConfigMember, AreConfigMembers, IsConfigStruct, StructType, length_name, shown_members, Auto, AtMember, Plain, Dyn, MemberType}
+use Rattle.conf_laws.proofs.Properties.{IsWithin, AreWithin, AreItemsWithin, object_within, list_within, property_within, optional_within, entry_within, item_within, fitting_parts, MapPlace, is_map, OwnPlace, is_own}
+use Rattle.conf_laws.proofs.Readings.{Says, proved_says, element_is, all_joined, under_no_test, optional_found, some_there, by_found, by_test}
+use Rattle.conf_laws.proofs.Sound.{HasRow, RowsSound, ContentSound, ObjectSound, object_sound, needed_sound, type_sound, class_place, object_at, content_sound, first_item, rows_sound, first_entry, optional_sound}
+use Rattle.conf_laws.proofs.Words.{rows_of, Presence, admits_class, is_dynamic_array, Place, At, entries_of, at_most, itself_of, form_of, Known, inside, is_position, inner_flaws, item_flaws, member_flaws, nothing, with_taken, take, is_taken, key_of, key_by, free_of, is_dynamic, class_of, class_of_member, elements, fits, arrays_fit, is_outermost, shape_of, with_names, names_beside, own_place, place_of_properties, item_content, Members, Data, object, get_member, optional, here, WrongKind, is_passed, members_len, items_len, both_read, plain_name_of, Items, no_items, item, no_members, member, array, as_array, as_object, eqb-true, false≢true, or_parts, All-push, All-nil, All-from_recursion, map-append, bytes_eq-Decides, IsDistinct, option_map_or, AllByRecursion, list_any, bytes_eq, field_type, element, object_at as object_named, list as list_in, member_type, member_said as member_of, behind_done, members_behind, made, align_for, listed, align_of, structure_of, structure, extra_members, names_in, own_names, IsPlainName, IsConfigMember, AreConfigMembers, IsConfigStruct, StructType, length_name, shown_members, Auto, AtMember, Plain, Dyn, MemberType}
 use Rattle.conf_laws.proofs.Words.places
 
 -- ---- what a member takes
@@ -132,18 +132,18 @@ IsTyped dynamic m = (name : List ℕ) → names_by dynamic name ≡ names_of (na
 
 -- the elements of a dynamic array
 elements_say : (k : Known) (ms : Members) → RowsSound k places.DynamicArray ms → Says (element ms) (λ t. AreWithin places.DynamicArray ms → IsConfigMember (Dyn t Auto))
-unfolding itself_of form_of is_position admits_class fits arrays_fit is_outermost shape_of
+unfolding itself_of form_of is_position admits_class fits arrays_fit is_outermost shape_of rows_of
 elements_say k ms h =
-    let p = needed_sound k places.DynamicArray (codes "element-field-type") (At places.DynamicElementType) ms (leads Property.dynamic_element) (needed_by Property.dynamic_element) h in
-    let (os, same, sound) = object_at k places.DynamicElementType p.value p.sound.value refl in
+    let (d, there, at) = needed_sound k places.DynamicArray (codes "element-field-type") (At places.DynamicElementType) ms (refl, refl) h in
+    let (os, same, sound) = object_at k places.DynamicElementType d at.value refl in
     let t = type_sound k places.DynamicElementType os refl sound in
     let x = type_says k places.DynamicElementType os refl t t.may_stand in
-    let found : get_member (codes "element-field-type") ms ≡ Some (object os) = p.found ∙ ap Some same in
+    let found : get_member (codes "element-field-type") ms ≡ Some (object os) = there ∙ ap Some same in
     let allowed : AreWithin places.DynamicArray ms → IsConfigMember (Dyn x.0 Auto) = λ h.
-    let good = property_within Property.dynamic_element ms (object os) h found in
+    let good = property_within places.DynamicArray (codes "element-field-type") (At places.DynamicElementType) (refl, refl) ms (object os) h found in
     let nests = some_there (elements 8 (object os)) (fitting_parts places.DynamicElementType (object os) good.fitting).0 in
     let one = x.2 good in
-    ((one.leaf, nest_allowed (object os) x.0 one nests.0 nests.1), bits_allowed (object os) x.0 one (was_so _ t.shape)) in
+    ((one.leaf, nest_allowed (object os) x.0 one nests.0 nests.1), bits_allowed (object os) x.0 one (is_passed _ tt tt _ t.shape).0) in
     (x.0, element_is ms ∙ ap (option_and_then field_type) found ∙ x.1, allowed)
 
 member_class : (class : Place) → admits_class places.MemberType class ≡ true → (class ≡ places.DynamicArray) ⊎ ((is_dynamic_array class ≡ false) × (admits_class places.ElementType class ≡ true))
@@ -170,19 +170,19 @@ member_says k ms h =
 
 -- what the value of an entry tells of
 told_says : (k : Known) (x : Data) → ContentSound k (At places.Member) x → Says (member_of x) (λ m. IsTyped (is_dynamic x) m × (IsWithin (At places.Member) x → IsConfigMember m))
-unfolding itself_of form_of place_of_properties is_position own_place inside object_named is_dynamic
+unfolding itself_of form_of place_of_properties is_position own_place inside object_named is_dynamic rows_of
 told_says k x h =
     let (os, same, sound) = object_at k places.Member x h refl in
-    let p = needed_sound k places.Member (codes "field-type") (At places.MemberType) os (leads Property.type_of_member) (needed_by Property.type_of_member) (rows_sound k places.Member places.Member os refl sound) in
-    let (ys, type_is, of_type) = object_at k places.MemberType p.value p.sound.value refl in
+    let (d, there, at) = needed_sound k places.Member (codes "field-type") (At places.MemberType) os (refl, refl) (rows_sound k places.Member places.Member os refl sound) in
+    let (ys, type_is, of_type) = object_at k places.MemberType d at.value refl in
     let m = member_says k ys of_type in
-    let found : get_member (codes "field-type") os ≡ Some (object ys) = p.found ∙ ap Some type_is in
+    let found : get_member (codes "field-type") os ≡ Some (object ys) = there ∙ ap Some type_is in
     let there = optional_found (codes "field-type") os (object ys) found refl in
     let dynamic : is_dynamic x ≡ option_map_or is_dynamic_array (class_of ys) false =
     ap (λ z. option_map_or is_dynamic_array (class_of_member z) false) same ∙ ap (λ q. option_map_or is_dynamic_array (option_and_then class_of (option_and_then as_object q)) false) found in
     let allowed : IsWithin (At places.Member) x → IsConfigMember m.0 = λ good.
     let own = object_within places.Member places.Member os ((is_own OwnPlace.named_member).own os) (subst (λ z. IsWithin (At places.Member) z) same good) in
-    m.2.1 (property_within Property.type_of_member os (object ys) own found) in
+    m.2.1 (property_within places.Member (codes "field-type") (At places.MemberType) (refl, refl) os (object ys) own found) in
     (m.0, ap member_of same ∙ ap (λ q. option_and_then member_type (option_and_then as_object q)) there ∙ m.1, ((λ name. ap (λ b. names_by b name) dynamic ∙ m.2.0 name), allowed))
 
 -- ---- an entry
@@ -243,20 +243,20 @@ unfolding shown_members IsDistinct
 no_members_allowed = record { types = All-nil (λ m. IsConfigMember m.1); names = All-nil IsPlainName; distinct = tt; few = omega arith }
 
 -- the members of a list of 256 entries at most, apart from names that were taken before
-module _ (k : Known) {b : Bool} {around place : Place} {name : List ℕ} (property : Property b around name (At place)) (ms : Members) (form : (d : Data) → itself_of k (At place) d ≡ form_of nothing places.Members d) (entries : item_content place ≡ At places.Entry)
+module _ (k : Known) (around : Place) {place : Place} (name : List ℕ) {presence : Presence} (row : HasRow around name presence (At place)) (ms : Members) (form : (d : Data) → itself_of k (At place) d ≡ form_of nothing places.Members d) (entries : item_content place ≡ At places.Entry)
     (most : (n : ℕ) → at_most (entries_of place) n ≡ nat_le n 256) (f : member_flaws k around ms ≡ []) (before : List (List ℕ)) (taken : AreTaken (names_beside place) before) where
   abbrev IsListed : List (List ℕ × MemberType) → Type 0
   IsListed members = AreApart before (shown_of members) × (AreWithin around ms → AreConfigMembers members)
 
   found_says : (d : Data) → optional name ms ≡ Some d → Says (members_behind [] (unwrap_or (as_array d) no_items)) IsListed
   found_says d is =
-      let sound = (optional_sound k around name (At place) ms d (leads property) f is).value in
+      let sound = (optional_sound k around name (At place) ms d row f is).value in
       let s = is_list d (sym (form d) ∙ sound.itself) in
       let all = items_say k place before entries s.0 (names_beside place) 0 [] (none_named before (names_beside place) taken) (subst (λ x. inner_flaws k (At place) x ≡ []) s.1 sound.inner) in
       let named = all.2.named in
       let counted = all.2.counted in
       let allowed : AreWithin around ms → AreConfigMembers all.0 = λ h.
-      let good = subst (λ x. IsWithin (At place) x) s.1 (optional_within property ms d h is) in
+      let good = subst (λ x. IsWithin (At place) x) s.1 (optional_within around name (At place) row ms d h is) in
       let short = leb-true (items_len s.0) 256 (sym (most (items_len s.0)) ∙ (fitting_parts place (array s.0) good.fitting).1) in
       record { types = all.2.types (All-nil (λ m. IsConfigMember m.1)) (list_within place s.0 good); names = named.names; distinct = named.shown.distinct; few = omega (arith, counted, short) } in
       subst (λ x. Says (members_behind [] (unwrap_or (as_array x) no_items)) IsListed) (sym s.1) (all.0, all.1, (named.shown.free, allowed))
@@ -283,9 +283,9 @@ struct_of : (members : List (List ℕ × MemberType)) (align : ℕ) (s : StructT
 struct_of members align s (all, least) h = record { members = subst (λ l. AreConfigMembers l) (sym all) h; empty = λ none. least ∙ ap (λ l. align_for l align) (sym all ∙ none) }
 
 object_says : (k : Known) (ms : Members) → RowsSound k places.Structure ms → Says (structure_of ms) (λ s. AreWithin places.Structure ms → IsConfigStruct s)
-unfolding structure_of align_of itself_of form_of item_content entries_of names_beside
+unfolding structure_of align_of itself_of form_of item_content entries_of names_beside rows_of
 object_says k ms h =
-    let members = listed_says k Property.members ms (λ d. refl) refl (λ n. refl) h.flaws [] tt in
+    let members = listed_says k places.Structure (codes "members") (refl, refl) ms (λ d. refl) refl (λ n. refl) h.flaws [] tt in
     let s = made_says members.0 (align_for members.0 (align_of ms)) (aligned members.0 (align_of ms) (alignment_or (codes "minimum-alignment") 1 ms no_alignment)) in
     (s.0, ap (option_and_then (λ all. made all (align_for all (align_of ms)))) members.1 ∙ s.1, λ good. struct_of members.0 (align_of ms) s.0 s.2 (members.2.1 good))
 
@@ -303,12 +303,12 @@ type_structure k d h =
     let s = object_says k os (subst (λ p. RowsSound (inside p os k) p os) same t.rows) in
     (s.0, ap (λ x. option_map_or structure_of (as_object x) (made [] 1)) is ∙ s.1, λ good. s.2 (object_within places.StructureType places.Structure os (class_place places.StructureType os places.Structure refl (t.is ∙ ap Some same)) (subst (λ x. IsWithin (At places.StructureType) x) is good)))
 
-pub structure_says : (k : Known) {b : Bool} {place : Place} {name : List ℕ} → Property b place name (At places.StructureType) → (ms : Members) → member_flaws k place ms ≡ [] → Says (structure name ms) (λ s. AreWithin place ms → IsConfigStruct s)
+pub structure_says : (k : Known) (place : Place) (name : List ℕ) {presence : Presence} → HasRow place name presence (At places.StructureType) → (ms : Members) → member_flaws k place ms ≡ [] → Says (structure name ms) (λ s. AreWithin place ms → IsConfigStruct s)
 unfolding structure object_named
-structure_says k {place = place} {name = name} property ms f =
+structure_says k place name row ms f =
     by_found (λ (o : Option Data). Says (option_map_or structure_of (option_and_then as_object o) (made [] 1)) (λ s. AreWithin place ms → IsConfigStruct s)) (optional name ms)
     (λ is. let s = made_says [] 1 no_alignment in (s.0, s.1, λ good. struct_of [] 1 s.0 s.2 no_members_allowed))
-    (λ d is. let s = type_structure k d (optional_sound k place name (At places.StructureType) ms d (leads property) f is).value in (s.0, s.1, λ good. s.2 (optional_within property ms d good is)))
+    (λ d is. let s = type_structure k d (optional_sound k place name (At places.StructureType) ms d row f is).value in (s.0, s.1, λ good. s.2 (optional_within place name (At places.StructureType) row ms d good is)))
 
 pub record AreExtras (s : StructType) : Type 0 where
   pub members : AreConfigMembers s.members
@@ -316,9 +316,9 @@ pub record AreExtras (s : StructType) : Type 0 where
   pub no_own_name : All (λ name. list_any (bytes_eq name) own_names ≡ false) (names_in (shown_members 0 s.members))
 
 pub extras_says : (k : Known) (ms : Members) → member_flaws k places.StreamType ms ≡ [] → Says (extra_members (codes "packet-context-field-type-extra-members") ms) (λ s. AreWithin places.StreamType ms → AreExtras s)
-unfolding extra_members itself_of form_of item_content entries_of names_beside
+unfolding extra_members itself_of form_of item_content entries_of names_beside rows_of
 extras_says k ms f =
-    let members = listed_says k Property.extras ms (λ d. refl) refl (λ n. refl) f own_names (refl, (refl, (refl, (refl, (refl, (refl, tt)))))) in
+    let members = listed_says k places.StreamType (codes "packet-context-field-type-extra-members") (refl, refl) ms (λ d. refl) refl (λ n. refl) f own_names (refl, (refl, (refl, (refl, (refl, (refl, tt)))))) in
     let s = made_says members.0 1 no_alignment in
     let all = s.2.0 in (
       s.0,

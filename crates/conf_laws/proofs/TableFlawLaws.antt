@@ -3,10 +3,10 @@
 use Rattle.std.proofs.Common.{codes, ◌≡◌, ◌≢◌, ◌⊎◌, ◌&&◌, ◌||◌, ◌↔◌, ◌+◌, ℕ, zero, suc, Bool, true, false, cond, List, Option, Some, None, is_some, IsSome, inl, inr, refl, sym, ap, subst, ◌∙◌, not, [], ◌∷◌, Contains, Ok, Err, arith, ◌++◌, map, Result, unwrap_or}
 use Rattle.conf_laws.proofs.Agreement.{Agrees, IsTrue, nothing_agrees, inside_agrees, behind_agrees, Takes, takes_beside, takes_further, item_agrees, IsFrom, from_start, from_next, item_here}
 use Rattle.conf_laws.proofs.Numbers.{number_told}
-use Rattle.conf_laws.proofs.Readings.{some_none, some_same, element_bits, by_element, by_found, by_test}
-use Rattle.conf_laws.proofs.Sound.{both_none, first_none, optional_there, unsigned_told}
-use Rattle.conf_laws.proofs.ValueFlawLaws.{IsJudged, then_judged, test_judged, only_judged, same_judged, none_there, number_there, number_found, class_word, word_excluded, value_judged, name_judged}
-use Rattle.conf_laws.proofs.Words.{HasNumber, Around, Parts, HasBehind, member_of, item_of, IsPropertyOf, IsLeftOut, IsNoClassAt, HasNotItsRows, IsByte, IsIdentifier, HasNoBits, IsNoShapeAt, IsFlawOf, IsNoValueOf, IsNoNameAt, words_of_classes, class_words, class_in, admits_class, content_under, presence_under, Told, rows_of, entries_of, Place, At, Content, Presence, Entries, class_named, class_of, class_said, other_class, may_inherit, resolved_content, is_needed, left_out, is_left_out, admitted, class_rule, row_there, rows_there, orders_there, all_there, told_by, property_flaws, inner_flaws, item_flaws, member_flaws, content_flaws, configuration_flaws, itself_of, Known, nothing, inside, behind, with_taken, key_of, names_beside, with_names, natural_in, is_position, place_of_properties, item_content, is_number, is_unsigned_integer, is_static_array, is_eight, is_byte, is_identifier, has_bits, element_has_bits, shape_of, Flaw, PathPart, key, here, within, index, ◌>>=◌, at, wanted, needed, optional, given, text_of, HasMember, refusal, WrongKind, OutOfRange, Missing, Unknown, refused_where, lacks_refused, found_there, IsNoWordOf, as_natural, Data, null, object, Members, array, Items, no_items, item, no_members, member, get_member, get_item, as_str, nat_tests, true≢false, false≢true, and-false, and_parts, and_from, and_cases, or_parts, eq-eqb, All-nil, All-cons, All-map, All-append, All-weaker, All-contains, bytes_eq-Decides, All, option_map_or, bytes_eq, ⊤}
+use Rattle.conf_laws.proofs.Readings.{some_none, some_same, class_told, only_unsigned, only_static, element_bits, by_element, by_found, by_test}
+use Rattle.conf_laws.proofs.Sound.{ObjectSound, object_sound, ContentSound, content_sound, flaws_at, property_here, first_flaws, first_item, optional_there}
+use Rattle.conf_laws.proofs.ValueFlawLaws.{IsJudged, then_judged, test_judged, same_judged, none_there, number_there, number_found, class_word, word_excluded, value_judged, name_judged}
+use Rattle.conf_laws.proofs.Words.{IsTaken, is_taken, HasNumber, Around, Parts, HasBehind, member_of, item_of, IsPropertyOf, IsLeftOut, IsNoClassAt, HasNotItsRows, IsByte, IsIdentifier, HasNoBits, IsNoShapeAt, IsFlawOf, IsNoValueOf, IsNoNameAt, words_of_classes, class_words, class_in, admits_class, content_under, presence_under, Told, rows_of, entries_of, Place, At, Content, Presence, Entries, class_named, class_of, class_said, other_class, may_inherit, resolved_content, is_needed, left_out, is_left_out, admitted, class_rule, row_there, rows_there, orders_there, all_there, told_by, property_flaws, inner_flaws, item_flaws, member_flaws, content_flaws, configuration_flaws, itself_of, Known, nothing, inside, behind, with_taken, key_of, names_beside, with_names, natural_in, is_position, place_of_properties, item_content, is_number, is_unsigned_integer, is_static_array, is_eight, is_byte, is_identifier, has_bits, element_has_bits, shape_of, Flaw, key, here, within, index, ◌>>=◌, at, wanted, needed, optional, given, text_of, HasMember, refusal, WrongKind, OutOfRange, Missing, Unknown, refused_where, lacks_refused, found_there, IsNoWordOf, as_natural, Data, null, object, Members, array, Items, no_items, item, no_members, member, get_member, get_item, as_str, nat_tests, true≢false, false≢true, and-false, and_parts, and_from, and_cases, or_parts, eq-eqb, All-nil, All-cons, All-map, All-append, All-weaker, All-contains, bytes_eq-Decides, All, option_map_or, bytes_eq, ⊤}
 use Rattle.conf_laws.proofs.Words.places
 use Rattle.conf_laws.proofs.Words.contents
 use Rattle.conf_laws.proofs.Words.presences
@@ -51,11 +51,6 @@ unfolding other_class
 other_told places.IdentifierFeature = inl (refl, refl)
 other_told _ = inr (λ same. absurd cc, refl)
 
--- of a value at a place in another
-there_judged : {A : Type 0} (P : Flaw → Type 0) (place : PathPart) (o : Option A) (step : A → Result ⊤ Flaw) → (o ≡ None → P (within place (here WrongKind))) → ((x : A) → o ≡ Some x → IsJudged (step x) P) → IsJudged (at place (wanted o) >>= step) P
-there_judged P place None step none each = none refl
-there_judged P place (Some x) step none each = each x refl
-
 module _ (place : Place) (ms : Members) where
   class_excluded : (d : Data) (w : List ℕ) (class : Place) (flaw : Flaw) → get_member (codes "class") ms ≡ Some d → as_str d ≡ Some w → class_in w class_words ≡ Some class → class_of ms ≡ Some class → admits_class place class ≡ true → ¬ IsNoClassAt place ms flaw
   class_excluded d w class flaw there text found is holds (IsNoClassAt.no_class position (inl (none, same))) = some_none (get_member (codes "class") ms) d there none
@@ -89,7 +84,7 @@ module _ (place : Place) (ms : Members) where
       by_test (λ (b : Bool). IsJudged (cond b (needed (codes "class") ms >>= (λ d. at (key (codes "class")) (text_of d) >>= (λ w. admitted place (class_in w class_words)))) (Ok tt)) (IsNoClassAt place ms)) (is_position place)
       (λ position. then_judged (IsNoClassAt place ms) (needed (codes "class") ms) _ (λ flaw r. IsNoClassAt.no_class position (inl (lacks_refused (codes "class") ms flaw r))) (λ d went.
       let there = found_there (codes "class") ms d went in
-      there_judged (IsNoClassAt place ms) (key (codes "class")) (as_str d) _ (λ none. IsNoClassAt.no_class position (inr (d, here WrongKind, there, IsNoWordOf.no_text none, refl))) (word_judged position d there)))
+      by_found (λ (o : Option (List ℕ)). IsJudged (at (key (codes "class")) (wanted o) >>= (λ w. admitted place (class_in w class_words))) (IsNoClassAt place ms)) (as_str d) (λ none. IsNoClassAt.no_class position (inr (d, here WrongKind, there, IsNoWordOf.no_text none, refl))) (word_judged position d there)))
       (λ is flaw. no_position flaw is)
 
 -- ---- what is missing
@@ -164,8 +159,8 @@ byte : (ms : Members) → IsTrue (is_byte (Some (object ms))) ↔ IsByte ms
 byte ms =
     let size = is_number (natural_in (codes "size") ms) 8 in
     let align = is_eight (optional (codes "alignment") ms) in (
-      λ e. let p = and_parts (is_unsigned_integer (class_of ms)) (size && align) e in let q = and_parts size align p.1 in (unsigned_told (class_of ms) p.0, (has_number (codes "size") ms 8).0 q.0, (eight ms).0 q.1),
-      λ (class, eight_bits, aligned). and_from (is_unsigned_integer (class_of ms)) (size && align) (ap is_unsigned_integer class) (and_from size align ((has_number (codes "size") ms 8).1 eight_bits) ((eight ms).1 aligned)),
+      λ e. let p = and_parts (option_map_or is_unsigned_integer (class_of ms) false) (size && align) e in let q = and_parts size align p.1 in (class_told is_unsigned_integer places.UnsignedInteger only_unsigned (class_of ms) p.0, (has_number (codes "size") ms 8).0 q.0, (eight ms).0 q.1),
+      λ (class, eight_bits, aligned). and_from (option_map_or is_unsigned_integer (class_of ms) false) (size && align) (ap (λ o. option_map_or is_unsigned_integer o false) class) (and_from size align ((has_number (codes "size") ms 8).1 eight_bits) ((eight ms).1 aligned)),
     )
 
 byte_object : (o : Option Data) → is_byte o ≡ true → (ms : Members) × (o ≡ Some (object ms))
@@ -181,10 +176,6 @@ identifier ms =
       λ (inner, sixteen, there, is). and_from length (is_byte element) ((has_number (codes "length") ms 16).1 sixteen) (ap is_byte there ∙ (byte inner).1 is),
     )
 
-pub static_told : (o : Option Place) → not (is_static_array o) ≡ false → o ≡ Some places.StaticArray
-static_told (Some places.StaticArray) e = refl
-static_told _ e = absurd cc
-
 bits_told : (d : Data) → has_bits d ≡ false → HasNoBits d
 bits_told d = by_element (λ x. has_bits x ≡ false → HasNoBits x) step d
   where
@@ -194,8 +185,8 @@ bits_told d = by_element (λ x. has_bits x ≡ false → HasNoBits x) step d
 
     step : (d : Data) → ((ms : Members) (x : Data) → d ≡ object ms → get_member (codes "element-field-type") ms ≡ Some x → has_bits x ≡ false → HasNoBits x) → has_bits d ≡ false → HasNoBits d
     step (object ms) inner e =
-        let p = or_parts (not (is_static_array (class_of ms))) _ e in
-        let class = static_told (class_of ms) p.0 in
+        let p = or_parts (not (option_map_or is_static_array (class_of ms) false)) _ e in
+        let class = class_told is_static_array places.StaticArray only_static (class_of ms) (let is : option_map_or is_static_array (class_of ms) false ≡ true = grind (arith, nat_tests) in is) in
         elim (and_cases (not (is_number (natural_in (codes "length") ms) 0)) (element_has_bits ms) p.1) [
           | inl empty ↦ HasNoBits.an_empty_array ms class ((has_number (codes "length") ms 0).0 (let none : is_number (natural_in (codes "length") ms) 0 ≡ true = grind (arith, nat_tests) in none))
           | inr none ↦ of_element ms (get_member (codes "element-field-type") ms) refl (λ x there. inner ms x refl there) class (sym (element_bits ms) ∙ none)
@@ -205,10 +196,10 @@ bits_told d = by_element (λ x. has_bits x ≡ false → HasNoBits x) step d
 no_bits_found : (d : Data) → HasNoBits d → has_bits d ≡ false
 no_bits_found d (HasNoBits.an_empty_array ms class length) =
     let none : is_number (natural_in (codes "length") ms) 0 ≡ true = (has_number (codes "length") ms 0).1 length in
-    let static : is_static_array (class_of ms) ≡ true = ap is_static_array class in
+    let static : option_map_or is_static_array (class_of ms) false ≡ true = ap (λ o. option_map_or is_static_array o false) class in
     rw (static, none) refl
 no_bits_found d (HasNoBits.an_array_of_such ms element class there such) =
-    let static : is_static_array (class_of ms) ≡ true = ap is_static_array class in
+    let static : option_map_or is_static_array (class_of ms) false ≡ true = ap (λ o. option_map_or is_static_array o false) class in
     let none : element_has_bits ms ≡ false = element_bits ms ∙ ap (λ o. option_map_or has_bits o true) there ∙ no_bits_found element such in
     rw (static, none) (and-false (not (is_number (natural_in (codes "length") ms) 0)))
 
@@ -216,94 +207,134 @@ shape_judged : (place : Place) (ms : Members) → IsJudged (shape_of place ms) (
 unfolding shape_of
 shape_judged places.MagicFeature ms =
     let size = has_number (codes "size") ms 32 in
-    only_judged (IsNoShapeAt places.MagicFeature ms) (is_number (natural_in (codes "size") ms) 32) (λ fails. IsNoShapeAt.no_magic_number refl (λ has. false≢true (sym fails ∙ size.1 has)))
+    test_judged (IsNoShapeAt places.MagicFeature ms) (is_number (natural_in (codes "size") ms) 32) (here OutOfRange) (λ fails. IsNoShapeAt.no_magic_number refl (λ has. false≢true (sym fails ∙ size.1 has)))
     (λ holds flaw wrong. elim wrong as (λ f w. ⊥) [ IsNoShapeAt.no_magic_number is other ↦ other (size.0 holds) | IsNoShapeAt.no_identifier is other ↦ absurd cc | IsNoShapeAt.no_bits is such ↦ absurd cc ])
 shape_judged places.IdentifierFeature ms =
-    only_judged (IsNoShapeAt places.IdentifierFeature ms) (is_identifier ms) (λ fails. IsNoShapeAt.no_identifier refl (λ is. false≢true (sym fails ∙ (identifier ms).1 is)))
+    test_judged (IsNoShapeAt places.IdentifierFeature ms) (is_identifier ms) (here OutOfRange) (λ fails. IsNoShapeAt.no_identifier refl (λ is. false≢true (sym fails ∙ (identifier ms).1 is)))
     (λ holds flaw wrong. elim wrong as (λ f w. ⊥) [ IsNoShapeAt.no_magic_number is other ↦ absurd cc | IsNoShapeAt.no_identifier is other ↦ other ((identifier ms).0 holds) | IsNoShapeAt.no_bits is such ↦ absurd cc ])
 shape_judged places.DynamicElementType ms =
-    only_judged (IsNoShapeAt places.DynamicElementType ms) (has_bits (object ms)) (λ fails. IsNoShapeAt.no_bits refl (bits_told (object ms) fails))
+    test_judged (IsNoShapeAt places.DynamicElementType ms) (has_bits (object ms)) (here OutOfRange) (λ fails. IsNoShapeAt.no_bits refl (bits_told (object ms) fails))
     (λ holds flaw wrong. elim wrong as (λ f w. ⊥) [ IsNoShapeAt.no_magic_number is other ↦ absurd cc | IsNoShapeAt.no_identifier is other ↦ absurd cc | IsNoShapeAt.no_bits is such ↦ false≢true (sym (no_bits_found (object ms) such) ∙ holds) ])
 shape_judged _ ms = λ flaw wrong. elim wrong as (λ f w. ⊥) [ IsNoShapeAt.no_magic_number is other ↦ absurd cc | IsNoShapeAt.no_identifier is other ↦ absurd cc | IsNoShapeAt.no_bits is such ↦ absurd cc ]
 
--- ---- lists of flaws
+-- ---- what readings tell
 
--- each of them is such, and where there is none there is none such
-abbrev pub Tell : (Flaw → Type 0) → List Flaw → Type 0
-Tell P flaws = All P flaws × (flaws ≡ [] → (flaw : Flaw) → ¬ P flaw)
+-- what a reading refuses is one of these, where it is one of those
+pub told : (P Q : Flaw → Type 0) (r : Result ⊤ Flaw) → IsJudged r P → ((flaw : Flaw) → P flaw → Q flaw) → All Q (told_by r)
+told P Q (Ok x) h to = All-nil Q
+told P Q (Err flaw) h to = All-cons Q flaw [] (to flaw h) (All-nil Q)
 
-pub judged_tell : (P : Flaw → Type 0) (r : Result ⊤ Flaw) → IsJudged r P → Tell P (told_by r)
-judged_tell P (Ok x) h = (All-nil P, λ e. h)
-judged_tell P (Err flaw) h = (All-cons P flaw [] h (All-nil P), λ e. absurd cc)
+-- a reading that refuses nothing leaves none
+clear : (P : Flaw → Type 0) (r : Result ⊤ Flaw) (flaw : Flaw) → IsJudged r P → r ≡ Ok tt → ¬ P flaw
+clear P (Ok x) flaw h e = h flaw
+clear P (Err f) flaw h e = absurd cc
 
-pub both_tell : (P Q : Flaw → Type 0) (xs ys : List Flaw) → Tell P xs → Tell Q ys → Tell (λ flaw. P flaw ⊎ Q flaw) (xs ++ ys)
-both_tell P Q xs ys p q = (
-  All-append (λ flaw. P flaw ⊎ Q flaw) xs ys (All-weaker P (λ flaw. P flaw ⊎ Q flaw) (λ flaw h. inl h) xs p.0) (All-weaker Q (λ flaw. P flaw ⊎ Q flaw) (λ flaw h. inr h) ys q.0),
-  λ e flaw either. let none = both_none xs ys e in elim either [ inl h ↦ p.1 none.0 flaw h | inr h ↦ q.1 none.1 flaw h ],
-)
+-- what is told of a part, seen from the whole, before the rest
+pub seen : (P Q : Flaw → Type 0) (see : Flaw → Flaw) (xs ys : List Flaw) → All P xs → ((flaw : Flaw) → P flaw → Q (see flaw)) → All Q ys → All Q (map see xs ++ ys)
+seen P Q see xs ys h to rest = All-append Q (map see xs) ys (All-map Q see xs (All-weaker P (λ f. Q (see f)) to xs h)) rest
 
--- a flaw of a part, seen from the whole
-abbrev pub Seen : (Flaw → Flaw) → (Flaw → Type 0) → Flaw → Type 0
-Seen seen P flaw = (f : Flaw) × (flaw ≡ seen f) × P f
-
--- those of a part, before others
-pub seen_tell : (P Q : Flaw → Type 0) (seen : Flaw → Flaw) (xs ys : List Flaw) → Tell P xs → Tell Q ys → Tell (λ flaw. Seen seen P flaw ⊎ Q flaw) (map seen xs ++ ys)
-seen_tell P Q seen xs ys p q = (
-  All-append (λ flaw. Seen seen P flaw ⊎ Q flaw) (map seen xs) ys (All-map (λ flaw. Seen seen P flaw ⊎ Q flaw) seen xs (All-weaker P (λ f. Seen seen P (seen f) ⊎ Q (seen f)) (λ f h. inl (f, refl, h)) xs p.0)) (All-weaker Q (λ flaw. Seen seen P flaw ⊎ Q flaw) (λ flaw h. inr h) ys q.0),
-  λ e flaw either. let none = first_none seen xs ys e in elim either [ inl h ↦ p.1 none.0 h.0 h.2 | inr h ↦ q.1 none.1 flaw h ],
-)
-
--- the same in other words
-pub same_tell : (P Q : Flaw → Type 0) (xs : List Flaw) → ((flaw : Flaw) → P flaw ↔ Q flaw) → Tell P xs → Tell Q xs
-same_tell P Q xs same p = (All-weaker P Q (λ flaw h. (same flaw).0 h) xs p.0, λ e flaw h. p.1 e flaw ((same flaw).1 h))
-
--- ---- members and items
+-- ---- what is told is a flaw
 
 member_there : (all before rest : Members) (name : List ℕ) (d : Data) → Parts all before rest → HasMember name d rest → HasMember name d all
 member_there all before rest name d (Parts.at_the_first) has = has
 member_there all before rest name d (Parts.behind b k e r parts) has = member_there all b (member k e r) name d parts (inr has)
 
--- such a flaw of one of the members from here on, by what stands before it
-abbrev pub OfMembers : (Members → List ℕ → Data → Flaw → Type 0) → Members → Members → Flaw → Type 0
-OfMembers P before no_members flaw = ⊥
-OfMembers P before (member name d rest) flaw = Seen (within (key name)) (P before name d) flaw ⊎ OfMembers P (member name d before) rest flaw
+value_told : (k : Known) (around : Around) → Agrees k around → (content : Content) (d : Data) → All (IsFlawOf around content d) (inner_flaws k content d) → All (IsFlawOf around content d) (content_flaws k content d)
+value_told k around h content d held =
+    All-append (IsFlawOf around content d) (told_by (itself_of k content d)) _ (told (IsNoValueOf around content d) (IsFlawOf around content d) (itself_of k content d) (value_judged k around h content d) (λ f wrong. IsFlawOf.wrong_value wrong)) held
 
-module _ (P : Members → List ℕ → Data → Flaw → Type 0) where
-  from_the_first : (all before rest : Members) (flaw : Flaw) → Parts all before rest → OfMembers P before rest flaw → OfMembers P no_members all flaw
-  from_the_first all before rest flaw Parts.at_the_first wrong = wrong
-  from_the_first all before rest flaw (Parts.behind b name d r parts) wrong = from_the_first all b (member name d rest) flaw parts (inr wrong)
+missing_is : (around : Around) (place : Place) (ms : Members) (flaw : Flaw) → IsMissing ms (place_of_properties place ms) flaw → IsFlawOf around (At place) (object ms) flaw
+missing_is around place ms flaw (inl (row, has, needed, none, same)) = subst (IsFlawOf around (At place) (object ms)) (sym same) (IsFlawOf.wrong_rows (HasNotItsRows.missing row has needed none))
+missing_is around place ms flaw (inr (is, a, b, same)) = subst (IsFlawOf around (At place) (object ms)) (sym same) (IsFlawOf.wrong_rows (HasNotItsRows.no_byte_order is a b))
 
-  -- of a member, whatever stands before it
-  pub among : (before rest : Members) (name : List ℕ) (d : Data) (flaw : Flaw) → HasMember name d rest → ((b : Members) → P b name d flaw) → OfMembers P before rest (within (key name) flaw)
-  among before no_members name d flaw has wrong = absurd has
-  among before (member l e rest) name d flaw (inl (same, is)) wrong = inl (flaw, ap (λ n. within (key n) flaw) same, subst (λ n. P before n e flaw) same (subst (λ x. P before name x flaw) is (wrong before)))
-  among before (member l e rest) name d flaw (inr has) wrong = inr (among (member l e before) rest name d flaw has wrong)
+-- the flaws of a property, where those of what its value holds are such
+module _ (k : Known) (around : Around) (place : Place) (all before rest : Members) (name : List ℕ) (d : Data) (parts : Parts all before (member name d rest)) where
+  abbrev own : Place
+  own = place_of_properties place all
 
-  pub one_member : (all before rest : Members) (flaw : Flaw) → Parts all before rest → OfMembers P before rest flaw → (b : Members) × (name : List ℕ) × (d : Data) × (f : Flaw) × HasBehind b name d all × HasMember name d all × (flaw ≡ within (key name) f) × P b name d f
-  one_member all before no_members flaw parts wrong = absurd wrong
-  one_member all before (member name d rest) flaw parts (inl (f, same, wrong)) = (before, name, d, f, (rest, parts), member_there all before (member name d rest) name d parts (inl (refl, refl)), same, wrong)
-  one_member all before (member name d rest) flaw parts (inr later) = one_member all (member name d before) rest flaw (Parts.behind before name d rest parts) later
+  abbrev inner : Around
+  inner = member_of own all before ∷ around
 
--- such a flaw of one of the items from place i on
-abbrev pub OfItems : (ℕ → Data → Flaw → Type 0) → ℕ → Items → Flaw → Type 0
-OfItems P i no_items flaw = ⊥
-OfItems P i (item d rest) flaw = Seen (within (index i)) (P i d) flaw ⊎ OfItems P (suc i) rest flaw
+  abbrev IsFlawThere : Flaw → Type 0
+  IsFlawThere flaw = IsFlawOf around (At place) (object all) (within (key name) flaw)
 
-module _ (P : ℕ → Data → Flaw → Type 0) where
-  pub item_among : (rest : Items) (i j n : ℕ) (d : Data) (flaw : Flaw) → n ≡ j + i → get_item j rest ≡ Some d → P n d flaw → OfItems P i rest (within (index n) flaw)
-  item_among no_items i j n d flaw same is wrong = absurd cc
-  item_among (item e rest) i zero n d flaw same is wrong =
-      let here_is : n ≡ i = omega (arith, same) in
-      let value : d ≡ e = cc in
-      inl (flaw, ap (λ m. within (index m) flaw) here_is, subst (λ m. P m e flaw) here_is (subst (λ x. P n x flaw) value wrong))
-  item_among (item e rest) i (suc j) n d flaw same is wrong = inr (item_among rest (suc i) j n d flaw (omega (arith, same)) is wrong)
+  property_told : Agrees k inner → ((content : Content) → All (IsFlawOf inner content d) (inner_flaws k content d)) → All IsFlawThere (flaws_at k own name d)
+  property_told h held =
+      let has = member_there all before (member name d rest) name d parts (inl (refl, refl)) in
+      by_found (λ (o : Option Content). All IsFlawThere (property_flaws k own name o d (inner_flaws k (unwrap_or o contents.Anything) d))) (resolved_content own name)
+      (λ none. All-cons IsFlawThere (here Unknown) [] (IsFlawOf.wrong_rows (HasNotItsRows.unknown name d has (λ content is. some_none (resolved_content own name) content ((property own name content).1 is) none))) (All-nil IsFlawThere))
+      (λ content is. by_test (λ (b : Bool). All IsFlawThere (cond b [] (told_by (itself_of k content d) ++ (told_by (key_of k own name d) ++ inner_flaws k content d)))) (is_left_out own name d) (λ out. All-nil IsFlawThere) (λ there.
+      let stays : ¬ IsLeftOut own name d = λ out. false≢true (sym there ∙ (left own name d).1 out) in
+      let of_value : (f : Flaw) → IsFlawOf inner content d f → IsFlawThere f = λ f wrong. IsFlawOf.in_property before name d content f (rest, parts) ((property own name content).0 is) stays wrong in
+      All-append IsFlawThere (told_by (itself_of k content d)) _ (told (IsNoValueOf inner content d) IsFlawThere (itself_of k content d) (value_judged k inner h content d) (λ f wrong. of_value f (IsFlawOf.wrong_value wrong)))
+      (All-append IsFlawThere (told_by (key_of k own name d)) _ (told (IsNoNameAt around own name d) IsFlawThere (key_of k own name d) (name_judged k around h.taken own name d) (λ f wrong. IsFlawOf.wrong_name name d f has wrong))
+      (All-weaker (IsFlawOf inner content d) IsFlawThere of_value (inner_flaws k content d) (held content)))))
 
-  pub one_item : (all : Items) (i : ℕ) (rest : Items) (flaw : Flaw) → IsFrom all i rest → OfItems P i rest flaw → (n : ℕ) × (d : Data) × (f : Flaw) × (get_item n all ≡ Some d) × (flaw ≡ within (index n) f) × P n d f
-  one_item all i no_items flaw from wrong = absurd wrong
-  one_item all i (item d rest) flaw from (inl (f, same, wrong)) = (i, d, f, item_here all i d rest from, same, wrong)
-  one_item all i (item d rest) flaw from (inr later) = one_item all (suc i) rest flaw (from_next all i d rest from) later
+mutual
+  inner_told : (d : Data) (k : Known) (around : Around) → Agrees k around → (content : Content) → All (IsFlawOf around content d) (inner_flaws k content d)
+  inner_told (array ds) k around h (At place) = items_told ds k around h place ds 0 (names_beside place) (takes_beside place ds) (from_start ds)
+  inner_told (object ms) k around h (At place) =
+      let p = place_of_properties place ms in
+      let P = IsFlawOf around (At place) (object ms) in
+      All-append P (told_by (class_rule place ms)) _ (told (IsNoClassAt place ms) P (class_rule place ms) (class_judged place ms) (λ f wrong. IsFlawOf.wrong_class wrong))
+      (All-append P (told_by (all_there p ms)) _ (told (IsMissing ms p) P (all_there p ms) (missing_judged ms p) (missing_is around place ms))
+      (All-append P (member_flaws (inside p ms k) p ms) _ (members_told ms (inside p ms k) around place ms no_members Parts.at_the_first (inside_agrees k around h p ms))
+      (told (IsNoShapeAt place ms) P (shape_of place ms) (shape_judged place ms) (λ f wrong. IsFlawOf.wrong_shape wrong))))
+  inner_told _ k around h _ = All-nil _
 
--- ---- a flaw is one of the value, or of what it holds
+  items_told : (rest : Items) (k : Known) (around : Around) → Agrees k around → (place : Place) (all : Items) (i : ℕ) (taken : Members) → Takes taken place all i → IsFrom all i rest → All (IsFlawOf around (At place) (array all)) (item_flaws k place taken i rest)
+  items_told no_items k around h place all i taken takes from = All-nil _
+  items_told (item d rest) k around h place all i taken takes from =
+      let j = with_taken taken k in
+      let inner = item_of place all i ∷ around in
+      let agrees = item_agrees k around taken place all i h takes in
+      let is = item_here all i d rest from in
+      seen (IsFlawOf inner (item_content place) d) (IsFlawOf around (At place) (array all)) (within (index i)) _ _ (value_told j inner agrees (item_content place) d (inner_told d j inner agrees (item_content place))) (λ f wrong. IsFlawOf.in_item i d f is wrong)
+      (items_told rest k around h place all (suc i) (with_names d taken) (takes_further taken place all i d is takes) (from_next all i d rest from))
+
+  members_told : (rest : Members) (k : Known) (around : Around) (place : Place) (all before : Members) → Parts all before rest → Agrees k (member_of (place_of_properties place all) all before ∷ around) → All (IsFlawOf around (At place) (object all)) (member_flaws k (place_of_properties place all) rest)
+  members_told no_members k around place all before parts h = All-nil _
+  members_told (member name d rest) k around place all before parts h =
+      let p = place_of_properties place all in
+      seen (λ flaw. IsFlawOf around (At place) (object all) (within (key name) flaw)) (IsFlawOf around (At place) (object all)) (within (key name)) _ _
+      (property_told k around place all before rest name d parts h (λ content. inner_told d k (member_of p all before ∷ around) h content)) (λ f wrong. wrong)
+      (members_told rest (behind p d k) around place all (member name d before) (Parts.behind before name d rest parts) (behind_agrees around all before name d p k h))
+
+-- ---- where none is told there is none
+
+parts_of : (all before rest : Members) (name : List ℕ) (d : Data) → Parts all before rest → HasMember name d rest → (b : Members) × HasBehind b name d all
+parts_of all before no_members name d parts has = absurd has
+parts_of all before (member n e rest) name d parts (inl (same, is)) = (before, (rest, subst (λ x. Parts all before (member x d rest)) (sym same) (subst (λ x. Parts all before (member n x rest)) (sym is) parts)))
+parts_of all before (member n e rest) name d parts (inr has) = parts_of all (member n e before) rest name d (Parts.behind before n e rest parts) has
+
+-- what is known at the place of an item, where none is told of its list
+item_at : (k : Known) (place : Place) (all rest : Items) (i j : ℕ) (taken : Members) (d : Data) → Takes taken place all i → IsFrom all i rest → item_flaws k place taken i rest ≡ [] → get_item j rest ≡ Some d
+    → (t : Members) × Takes t place all (j + i) × ContentSound (with_taken t k) (item_content place) d
+item_at k place all no_items i j taken d takes from e is = absurd cc
+item_at k place all (item x rest) i zero taken d takes from e is = (taken, subst (Takes taken place all) (omega arith) takes, let same : x ≡ d = cc in subst (ContentSound (with_taken taken k) (item_content place)) same (content_sound (with_taken taken k) (item_content place) x (first_item k place taken i x rest e).0))
+item_at k place all (item x rest) i (suc j) taken d takes from e is =
+    let (t, more, sound) = item_at k place all rest (suc i) j (with_names x taken) d (takes_further taken place all i x (item_here all i x rest from) takes) (from_next all i x rest from) (first_item k place taken i x rest e).1 is in
+    (t, subst (Takes t place all) (omega arith) more, sound)
+
+-- what is known at a member of an object that is sound, and that none is told of it
+module _ (k : Known) (around : Around) (h : Agrees k around) (place : Place) (ms : Members) (o : ObjectSound k place ms) where
+  known_at : (before rest : Members) → Parts ms before rest → (j : Known) × Agrees j (member_of (place_of_properties place ms) ms before ∷ around) × (member_flaws j (place_of_properties place ms) rest ≡ [])
+  known_at before rest Parts.at_the_first = (inside (place_of_properties place ms) ms k, inside_agrees k around h (place_of_properties place ms) ms, o.members)
+  known_at before rest (Parts.behind b n d r parts) =
+      let p = place_of_properties place ms in
+      let (j, agrees, none) = known_at b (member n d r) parts in
+      (behind p d j, behind_agrees around ms b n d p j agrees, (first_flaws j p n d r none).1)
+
+  member_at : (before : Members) (name : List ℕ) (d : Data) → HasBehind before name d ms → (j : Known) × Agrees j (member_of (place_of_properties place ms) ms before ∷ around) × (flaws_at j (place_of_properties place ms) name d ≡ [])
+  member_at before name d (rest, parts) = let (j, agrees, none) = known_at before (member name d rest) parts in (j, agrees, (first_flaws j (place_of_properties place ms) name d rest none).0)
+
+  named_at : (name : List ℕ) (d : Data) → HasMember name d ms → (j : Known) × ((n : List ℕ) → IsTrue (is_taken j.taken n) ↔ IsTaken around n) × (flaws_at j (place_of_properties place ms) name d ≡ [])
+  named_at name d has = let (before, behind_these) = parts_of ms no_members ms name d Parts.at_the_first has in let (j, agrees, none) = member_at before name d behind_these in (j, agrees.taken, none)
+
+-- a property of which none is told is known
+known_there : (k : Known) (place : Place) (name : List ℕ) (d : Data) → flaws_at k place name d ≡ [] → (content : Content) × (resolved_content place name ≡ Some content)
+known_there k place name d e =
+    by_found (λ (o : Option Content). property_flaws k place name o d (inner_flaws k (unwrap_or o contents.Anything) d) ≡ [] → (content : Content) × (o ≡ Some content)) (resolved_content place name) (λ none f. absurd cc) (λ content is f. (content, refl)) e
 
 -- a map has no rows
 no_rows : (place : Place) (name : List ℕ) (entries : Entries) → entries_of place ≡ Some entries → presence_under place name ≡ None
@@ -311,138 +342,41 @@ unfolding entries_of presence_under rows_of
 no_rows places.Environment name entries is = refl
 no_rows _ name entries is = cc
 
--- a flaw of a member, seen from its value: it is unknown, its value is wrong, or its name
-abbrev IsFlawAt : Around → Place → Members → Members → List ℕ → Data → Flaw → Type 0
-IsFlawAt around place all before name d flaw =
-    ((flaw ≡ here Unknown) × ((content : Content) → ¬ IsPropertyOf place name content))
-    ⊎ (((content : Content) × IsPropertyOf place name content × ¬ IsLeftOut place name d × IsFlawOf (member_of place all before ∷ around) content d flaw) ⊎ IsNoNameAt around place name d flaw)
-
-abbrev IsItemFlaw : Around → Place → Items → ℕ → Data → Flaw → Type 0
-IsItemFlaw around place all i d flaw = IsFlawOf (item_of place all i ∷ around) (item_content place) d flaw
-
-abbrev IsFlawInside : Around → Data → Content → Flaw → Type 0
-IsFlawInside around (object ms) (At place) flaw =
-    IsNoClassAt place ms flaw ⊎ (IsMissing ms (place_of_properties place ms) flaw ⊎ (OfMembers (IsFlawAt around (place_of_properties place ms) ms) no_members ms flaw ⊎ IsNoShapeAt place ms flaw))
-IsFlawInside around (array ds) (At place) flaw = OfItems (IsItemFlaw around place ds) 0 ds flaw
-IsFlawInside around _ _ flaw = ⊥
-
-of_value : (around : Around) (content : Content) (d : Data) (flaw : Flaw) → IsFlawOf around content d flaw → IsNoValueOf around content d flaw ⊎ IsFlawInside around d content flaw
-of_value around content d flaw (IsFlawOf.wrong_value wrong) = inl wrong
-of_value around content d flaw (IsFlawOf.wrong_class wrong) = inr (inl wrong)
-of_value around content d flaw (IsFlawOf.wrong_rows (HasNotItsRows.missing row has needed none)) = inr (inr (inl (inl (row, has, needed, none, refl))))
-of_value around content d flaw (IsFlawOf.wrong_rows (HasNotItsRows.no_byte_order is a b)) = inr (inr (inl (inr (is, a, b, refl))))
-of_value around content d flaw (IsFlawOf.wrong_rows {place = place} {ms = ms} (HasNotItsRows.unknown name v has none)) = inr (inr (inr (inl (among (IsFlawAt around (place_of_properties place ms) ms) no_members ms name v (here Unknown) has (λ b. inl (refl, none))))))
-of_value around content d flaw (IsFlawOf.wrong_shape wrong) = inr (inr (inr (inr wrong)))
-of_value around content d flaw (IsFlawOf.wrong_name {place = place} {ms = ms} name v f has wrong) = inr (inr (inr (inl (among (IsFlawAt around (place_of_properties place ms) ms) no_members ms name v f has (λ b. inr (inr wrong))))))
-of_value around content d flaw (IsFlawOf.in_property {place = place} {ms = ms} before name v inner f (rest, parts) is left wrong) =
-    inr (inr (inr (inl (from_the_first (IsFlawAt around (place_of_properties place ms) ms) ms before (member name v rest) (within (key name) f) parts (inl (f, refl, inr (inl (inner, is, left, wrong))))))))
-of_value around content d flaw (IsFlawOf.in_item {place = place} {ds = ds} i v f is wrong) = inr (item_among (IsItemFlaw around place ds) ds 0 i i v f (omega arith) is wrong)
-
-from_member : (around : Around) (place : Place) (all : Members) (flaw : Flaw) → OfMembers (IsFlawAt around (place_of_properties place all) all) no_members all flaw → IsFlawOf around (At place) (object all) flaw
-from_member around place all flaw wrong =
-    let (before, name, d, f, behind_these, has, same, at) = one_member (IsFlawAt around (place_of_properties place all) all) all no_members all flaw Parts.at_the_first wrong in
-    subst (IsFlawOf around (At place) (object all)) (sym same) (elim at [
-      | inl (is, none) ↦ IsFlawOf.wrong_rows (subst (λ x. HasNotItsRows (place_of_properties place all) all (within (key name) x)) (sym is) (HasNotItsRows.unknown name d has none))
-      | inr (inl (content, is, left, inner)) ↦ IsFlawOf.in_property before name d content f behind_these is left inner
-      | inr (inr named) ↦ IsFlawOf.wrong_name name d f has named
-    ])
-
-from_inside : (around : Around) (d : Data) (content : Content) (flaw : Flaw) → IsFlawInside around d content flaw → IsFlawOf around content d flaw
-from_inside around (object ms) (At place) flaw (inl wrong) = IsFlawOf.wrong_class wrong
-from_inside around (object ms) (At place) flaw (inr (inl (inl (row, has, needed, none, same)))) = subst (IsFlawOf around (At place) (object ms)) (sym same) (IsFlawOf.wrong_rows (HasNotItsRows.missing row has needed none))
-from_inside around (object ms) (At place) flaw (inr (inl (inr (is, a, b, same)))) = subst (IsFlawOf around (At place) (object ms)) (sym same) (IsFlawOf.wrong_rows (HasNotItsRows.no_byte_order is a b))
-from_inside around (object ms) (At place) flaw (inr (inr (inl wrong))) = from_member around place ms flaw wrong
-from_inside around (object ms) (At place) flaw (inr (inr (inr wrong))) = IsFlawOf.wrong_shape wrong
-from_inside around (array ds) (At place) flaw wrong =
-    let (n, d, f, is, same, inner) = one_item (IsItemFlaw around place ds) ds 0 ds flaw (from_start ds) wrong in subst (IsFlawOf around (At place) (array ds)) (sym same) (IsFlawOf.in_item n d f is inner)
-from_inside around _ _ flaw wrong = absurd wrong
-
-value_or_inside : (around : Around) (content : Content) (d : Data) (flaw : Flaw) → (IsNoValueOf around content d flaw ⊎ IsFlawInside around d content flaw) ↔ IsFlawOf around content d flaw
-value_or_inside around content d flaw = (λ either. elim either [ inl wrong ↦ IsFlawOf.wrong_value wrong | inr wrong ↦ from_inside around d content flaw wrong ], of_value around content d flaw)
-
--- ---- the walk
-
--- a value and what it holds
-value_tells : (k : Known) (around : Around) → Agrees k around → (content : Content) (d : Data) → Tell (IsFlawInside around d content) (inner_flaws k content d) → Tell (IsFlawOf around content d) (content_flaws k content d)
-value_tells k around h content d held =
-    same_tell (λ flaw. IsNoValueOf around content d flaw ⊎ IsFlawInside around d content flaw) (IsFlawOf around content d) (content_flaws k content d) (value_or_inside around content d)
-    (both_tell (IsNoValueOf around content d) (IsFlawInside around d content) (told_by (itself_of k content d)) (inner_flaws k content d) (judged_tell (IsNoValueOf around content d) (itself_of k content d) (value_judged k around h content d)) held)
-
--- the flaws of a property, where those of what its value holds are told
-module _ (k : Known) (around : Around) (place : Place) (all before : Members) (name : List ℕ) (d : Data) (h : Agrees k (member_of place all before ∷ around)) where
-  abbrev IsFlawThere : Flaw → Type 0
-  IsFlawThere = IsFlawAt around place all before name d
-
-  known_tells : (content : Content) → IsPropertyOf place name content → Tell (IsFlawInside (member_of place all before ∷ around) d content) (inner_flaws k content d) → Tell IsFlawThere (cond (is_left_out place name d) [] (told_by (itself_of k content d) ++ (told_by (key_of k place name d) ++ inner_flaws k content d)))
-  unfolding is_left_out
-  known_tells content is held =
-      by_test (λ (b : Bool). Tell IsFlawThere (cond b [] (told_by (itself_of k content d) ++ (told_by (key_of k place name d) ++ inner_flaws k content d)))) (is_left_out place name d)
-      (λ out. (
-        All-nil IsFlawThere,
-        λ e flaw wrong. elim wrong [
-          | inl (same, none) ↦ none content is
-          | inr (inl (c, own, left_not, inner)) ↦ left_not ((left place name d).0 out)
-          | inr (inr (entries, map, named)) ↦ false≢true (sym (ap (λ o. left_out o d) (no_rows place name entries map)) ∙ out)
-        ],
-      ))
-      (λ there. let stays : ¬ IsLeftOut place name d = λ out. false≢true (sym there ∙ (left place name d).1 out) in same_tell (λ flaw. IsNoValueOf (member_of place all before ∷ around) content d flaw ⊎ (IsNoNameAt around place name d flaw ⊎ IsFlawInside (member_of place all before ∷ around) d content flaw)) IsFlawThere _ (λ flaw. (
-        λ either. elim either [
-          | inl value ↦ inr (inl (content, is, stays, IsFlawOf.wrong_value value))
-          | inr (inl named) ↦ inr (inr named)
-          | inr (inr inner) ↦ inr (inl (content, is, stays, from_inside (member_of place all before ∷ around) d content flaw inner))
-        ],
-        λ wrong. elim wrong [
-          | inl (same, none) ↦ absurd (none content is)
-          | inr (inl (c, own, left_not, inner)) ↦ (let own_is = some_same (content_under place name) c content own.0 is.0 in elim (of_value (member_of place all before ∷ around) content d flaw (subst (λ x. IsFlawOf (member_of place all before ∷ around) x d flaw) own_is inner)) [ inl value ↦ inl value | inr inside ↦ inr (inr inside) ])
-          | inr (inr named) ↦ inr (inl named)
-        ],
-      ))
-      (both_tell (IsNoValueOf (member_of place all before ∷ around) content d) (λ flaw. IsNoNameAt around place name d flaw ⊎ IsFlawInside (member_of place all before ∷ around) d content flaw) (told_by (itself_of k content d)) _ (judged_tell _ (itself_of k content d) (value_judged k (member_of place all before ∷ around) h content d))
-      (both_tell (IsNoNameAt around place name d) (IsFlawInside (member_of place all before ∷ around) d content) (told_by (key_of k place name d)) (inner_flaws k content d) (judged_tell _ (key_of k place name d) (name_judged k around h.taken place name d)) held)))
-
-  property_tells : ((content : Content) → Tell (IsFlawInside (member_of place all before ∷ around) d content) (inner_flaws k content d)) → Tell IsFlawThere (property_flaws k place name (resolved_content place name) d (inner_flaws k (unwrap_or (resolved_content place name) contents.Anything) d))
-  property_tells held =
-      by_found (λ (o : Option Content). Tell IsFlawThere (property_flaws k place name o d (inner_flaws k (unwrap_or o contents.Anything) d))) (resolved_content place name)
-      (λ none. (All-cons IsFlawThere (here Unknown) [] (inl (refl, λ content is. some_none (resolved_content place name) content ((property place name content).1 is) none)) (All-nil IsFlawThere), λ e. absurd cc))
-      (λ content is. known_tells content ((property place name content).0 is) (held content))
-
-mutual
-  inner_tells : (d : Data) (k : Known) (around : Around) → Agrees k around → (content : Content) → Tell (IsFlawInside around d content) (inner_flaws k content d)
-  inner_tells (array ds) k around h (At place) = items_tell ds k around h place ds 0 (names_beside place) (takes_beside place ds) (from_start ds)
-  inner_tells (object ms) k around h (At place) =
-      let p = place_of_properties place ms in
-      both_tell (IsNoClassAt place ms) _ (told_by (class_rule place ms)) _ (judged_tell (IsNoClassAt place ms) (class_rule place ms) (class_judged place ms))
-      (both_tell (IsMissing ms p) _ (told_by (all_there p ms)) _ (judged_tell (IsMissing ms p) (all_there p ms) (missing_judged ms p))
-      (both_tell (OfMembers (IsFlawAt around p ms) no_members ms) (IsNoShapeAt place ms) (member_flaws (inside p ms k) p ms) (told_by (shape_of place ms)) (members_tell ms (inside p ms k) around p ms no_members (inside_agrees k around h p ms)) (judged_tell (IsNoShapeAt place ms) (shape_of place ms) (shape_judged place ms))))
-  inner_tells _ k around h _ = (All-nil _, λ e flaw wrong. wrong)
-
-  items_tell : (rest : Items) (k : Known) (around : Around) → Agrees k around → (place : Place) (all : Items) (i : ℕ) (taken : Members) → Takes taken place all i → IsFrom all i rest → Tell (OfItems (IsItemFlaw around place all) i rest) (item_flaws k place taken i rest)
-  items_tell no_items k around h place all i taken takes from = (All-nil _, λ e flaw wrong. wrong)
-  items_tell (item d rest) k around h place all i taken takes from =
-      let j = with_taken taken k in
-      let inner = item_of place all i ∷ around in
-      let agrees = item_agrees k around taken place all i h takes in
-      seen_tell (IsFlawOf inner (item_content place) d) (OfItems (IsItemFlaw around place all) (suc i) rest) (within (index i)) _ _ (value_tells j inner agrees (item_content place) d (inner_tells d j inner agrees (item_content place)))
-      (items_tell rest k around h place all (suc i) (with_names d taken) (takes_further taken place all i d (item_here all i d rest from) takes) (from_next all i d rest from))
-
-  members_tell : (rest : Members) (k : Known) (around : Around) (place : Place) (all before : Members) → Agrees k (member_of place all before ∷ around) → Tell (OfMembers (IsFlawAt around place all) before rest) (member_flaws k place rest)
-  members_tell no_members k around place all before h = (All-nil _, λ e flaw wrong. wrong)
-  members_tell (member name d rest) k around place all before h =
-      seen_tell (IsFlawAt around place all before name d) (OfMembers (IsFlawAt around place all) (member name d before) rest) (within (key name)) _ _
-      (property_tells k around place all before name d h (λ content. inner_tells d k (member_of place all before ∷ around) h content))
-      (members_tell rest (behind place d k) around place all (member name d before) (behind_agrees around all before name d place k h))
+none_of : (around : Around) (content : Content) (d : Data) (flaw : Flaw) → IsFlawOf around content d flaw → (k : Known) → Agrees k around → ¬ ContentSound k content d
+unfolding is_left_out
+none_of around content d flaw (IsFlawOf.wrong_value wrong) k h sound = clear (IsNoValueOf around content d) (itself_of k content d) flaw (value_judged k around h content d) sound.itself wrong
+none_of around content d flaw (IsFlawOf.wrong_class {place = place} {ms = ms} wrong) k h sound = clear (IsNoClassAt place ms) (class_rule place ms) flaw (class_judged place ms) (object_sound k place ms sound.inner).class_fits wrong
+none_of around content d flaw (IsFlawOf.wrong_shape {place = place} {ms = ms} wrong) k h sound = clear (IsNoShapeAt place ms) (shape_of place ms) flaw (shape_judged place ms) (object_sound k place ms sound.inner).shape wrong
+none_of around content d flaw (IsFlawOf.wrong_rows {place = place} {ms = ms} (HasNotItsRows.missing row has needed none)) k h sound =
+    clear (IsMissing ms (place_of_properties place ms)) (all_there (place_of_properties place ms) ms) flaw (missing_judged ms (place_of_properties place ms)) (object_sound k place ms sound.inner).there (inl (row, has, needed, none, refl))
+none_of around content d flaw (IsFlawOf.wrong_rows {place = place} {ms = ms} (HasNotItsRows.no_byte_order is a b)) k h sound =
+    clear (IsMissing ms (place_of_properties place ms)) (all_there (place_of_properties place ms) ms) flaw (missing_judged ms (place_of_properties place ms)) (object_sound k place ms sound.inner).there (inr (is, a, b, refl))
+none_of around content d flaw (IsFlawOf.wrong_rows {place = place} {ms = ms} (HasNotItsRows.unknown name v has none)) k h sound =
+    let (j, taken, empty) = named_at k around h place ms (object_sound k place ms sound.inner) name v has in
+    let (c, is) = known_there j (place_of_properties place ms) name v empty in
+    none c ((property (place_of_properties place ms) name c).0 is)
+none_of around content d flaw (IsFlawOf.wrong_name {place = place} {ms = ms} name v f has wrong) k h sound =
+    let p = place_of_properties place ms in
+    let (j, taken, empty) = named_at k around h place ms (object_sound k place ms sound.inner) name v has in
+    let (c, is) = known_there j p name v empty in
+    clear (IsNoNameAt around p name v) (key_of j p name v) f (name_judged j around taken p name v) (property_here j p name c v is (ap (λ o. left_out o v) (no_rows p name wrong.0 wrong.1)) empty).named wrong
+none_of around content d flaw (IsFlawOf.in_property {place = place} {ms = ms} before name v inner f behind_these is left_not wrong) k h sound =
+    let p = place_of_properties place ms in
+    let (j, agrees, empty) = member_at k around h place ms (object_sound k place ms sound.inner) before name v behind_these in
+    let stays = by_test (λ (b : Bool). b ≡ false) (is_left_out p name v) (λ out. absurd (left_not ((left p name v).0 out))) (λ is. refl) in
+    none_of (member_of p ms before ∷ around) inner v f wrong j agrees (property_here j p name inner v ((property p name inner).1 is) stays empty).value
+none_of around content d flaw (IsFlawOf.in_item {place = place} {ds = ds} i v f is wrong) k h sound =
+    let (t, takes, at) = item_at k place ds ds 0 i (names_beside place) v (takes_beside place ds) (from_start ds) sound.inner is in
+    none_of (item_of place ds i ∷ around) (item_content place) v f wrong (with_taken t k) (item_agrees k around t place ds i h (subst (Takes t place ds) (omega arith) takes)) at
 
 -- ---- a whole configuration
 
-walk_tells : (d : Data) → Tell (IsFlawOf [] (At places.Root) d) (configuration_flaws d)
-walk_tells d = value_tells nothing [] nothing_agrees (At places.Root) d (inner_tells d nothing [] nothing_agrees (At places.Root))
-
 pub flaw_told : (d : Data) (flaw : Flaw) → Contains (configuration_flaws d) flaw → IsFlawOf [] (At places.Root) d flaw
-flaw_told d flaw among = All-contains (IsFlawOf [] (At places.Root) d) (configuration_flaws d) flaw (walk_tells d).0 among
+flaw_told d flaw among = All-contains (IsFlawOf [] (At places.Root) d) (configuration_flaws d) flaw (value_told nothing [] nothing_agrees (At places.Root) d (inner_told d nothing [] nothing_agrees (At places.Root))) among
 
 -- where nothing is told of a whole configuration
 pub none_left : (d : Data) → configuration_flaws d ≡ [] → (flaw : Flaw) → ¬ IsFlawOf [] (At places.Root) d flaw
-none_left d e flaw wrong = (walk_tells d).1 e flaw wrong
+none_left d e flaw wrong = none_of [] (At places.Root) d flaw wrong nothing nothing_agrees (content_sound nothing (At places.Root) d e)
 
 -- the flaw that a walk answers is one that it tells of
 pub refused_among : (flaws : List Flaw) (flaw : Flaw) → refusal flaws ≡ Err flaw → Contains flaws flaw

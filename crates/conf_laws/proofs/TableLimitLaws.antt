@@ -1,10 +1,11 @@
 -- Each limit that the walk over a configuration tells of is one that it passes by the table.
-use Rattle.std.proofs.Common.{◌≡◌, ◌⊎◌, ◌↔◌, ◌*◌, ◌/◌, ◌≤◌, ◌<◌, ℕ, zero, suc, Bool, true, false, not, cond, List, [], ◌∷◌, length, Option, Some, None, inl, inr, refl, sym, ap, subst, ◌∙◌, arith, ◌%◌, ◌==◌, ◌&&◌, map, Contains, is_some, Err, codes, unwrap_or, nat_le, nat_eq}
-use Rattle.conf_laws.proofs.Agreement.{from_start}
-use Rattle.conf_laws.proofs.Readings.{some_none, some_same, of_element, in_array, by_found, by_test}
-use Rattle.conf_laws.proofs.TableFlawLaws.{static_told, Tell, both_tell, seen_tell, same_tell, OfMembers, among, one_member, OfItems, item_among, one_item, refused_among}
+use Rattle.std.proofs.Common.{◌≡◌, ◌⊎◌, ◌↔◌, ◌*◌, ◌/◌, ◌≤◌, ◌<◌, ℕ, zero, suc, Bool, true, false, cond, List, [], ◌∷◌, length, Option, Some, None, inl, inr, refl, sym, ap, subst, ◌∙◌, arith, ◌%◌, ◌==◌, ◌&&◌, Contains, is_some, Err, codes, unwrap_or, nat_le, nat_eq}
+use Rattle.conf_laws.proofs.Agreement.{IsFrom, from_start, from_next, item_here}
+use Rattle.conf_laws.proofs.Properties.{fits_there, limits_at, first_limits, first_item_limits}
+use Rattle.conf_laws.proofs.Readings.{some_same, at_member, class_told, only_static, of_element, in_array, by_found, by_test}
+use Rattle.conf_laws.proofs.TableFlawLaws.{seen, refused_among}
 use Rattle.conf_laws.proofs.ValueFlawLaws.{none_there, divided}
-use Rattle.conf_laws.proofs.Words.{Parts, IsArray, HasElement, Nest, product, HasTooManyElements, PassesAt, IsLongText, IsNoPowerUpTo, PassesBy, PassesLimitOf, entries_of, content_under, Place, Content, Entries, Keys, class_of, told_by, times, at_least_one, elements, elements_in_array, within_limit, bytes_fit, divides, power_fits, is_outermost, arrays_fit, count_of, at_most, ranges_of, ranges_fit, place_fits, fits, is_label, key_fits, inner_limits, item_limits, member_limits, configuration_limits, content_limits, natural_in, place_of_properties, item_content, is_static_array, Flaw, key, index, here, within, refusal, Limit, as_natural, Data, object, Members, string, array, Items, no_items, item, no_members, member, get_member, nat_tests, mul-one, one-le-mul, mul-mod_right, leb-true, leb-false, lt-leb, ne_eqb, or_from, and_left, and_right, true≢false, eqb-false, and_cases, or_parts, All-nil, All-cons, All-contains, mul-le, option_map_or}
+use Rattle.conf_laws.proofs.Words.{All-weaker, All-append, All, HasMember, get_item, IsArray, HasElement, Nest, product, HasTooManyElements, PassesAt, IsLongText, IsNoPowerUpTo, PassesBy, PassesLimitOf, entries_of, content_under, Place, Content, Entries, Keys, class_of, told_by, times, at_least_one, elements, elements_in_array, within_limit, bytes_fit, divides, power_fits, is_outermost, arrays_fit, count_of, at_most, ranges_of, ranges_fit, place_fits, fits, is_label, key_fits, inner_limits, item_limits, member_limits, configuration_limits, content_limits, natural_in, place_of_properties, item_content, is_static_array, Flaw, key, index, here, within, refusal, Limit, as_natural, Data, object, Members, string, array, Items, no_items, item, no_members, member, get_member, nat_tests, mul-one, one-le-mul, mul-mod_right, leb-true, leb-false, lt-leb, ne_eqb, or_from, and_left, and_right, true≢false, eqb-false, and_cases, or_parts, All-nil, All-cons, All-contains, mul-le, option_map_or}
 use Rattle.conf_laws.proofs.Words.places
 use Rattle.conf_laws.proofs.Words.contents
 use Rattle.conf_laws.proofs.Words.keys
@@ -42,8 +43,8 @@ single levels d none = record { nest = ([], Nest.none d, refl); some = omega ari
     most e ns (Nest.innermost ms n is) same = absurd (none ms n (sym same) is)
     most e ns (Nest.around_others ms n element rest is has nest) same = absurd (none ms n (sym same) is)
 
-no_array : (ms ns : Members) (n : ℕ) → is_static_array (class_of ms) ≡ false → object ms ≡ object ns → ¬ IsArray ns n
-no_array ms ns n fails same is = let members : ms ≡ ns = cc in true≢false (sym (ap is_static_array is.0) ∙ ap (λ x. is_static_array (class_of x)) (sym members) ∙ fails)
+no_array : (ms ns : Members) (n : ℕ) → option_map_or is_static_array (class_of ms) false ≡ false → object ms ≡ object ns → ¬ IsArray ns n
+no_array ms ns n fails same is = let members : ms ≡ ns = cc in true≢false (sym (ap (λ o. option_map_or is_static_array o false) is.0) ∙ ap (λ x. option_map_or is_static_array (class_of x) false) (sym members) ∙ fails)
 
 -- an array of so many
 module _ (ms : Members) (n : ℕ) (is_one : IsArray ms n) (some : 1 ≤ n) (levels : ℕ) where
@@ -86,14 +87,14 @@ array_measured levels ms n is_one some inner (Some element) has = go (elements l
 
 measured : (levels : ℕ) (d : Data) → Measured levels d (elements levels d)
 measured zero (object ms) =
-    by_test (λ (b : Bool). Measured 0 (object ms) (cond b None (Some 1))) (is_static_array (class_of ms))
-    (λ is. let some = some_count (natural_in (codes "length") ms) in inl (some.0 ∷ [], Nest.innermost ms some.0 (static_told (class_of ms) (ap not is), some.1), omega arith)) (λ is. single 0 (object ms) (λ ns n. no_array ms ns n is))
+    by_test (λ (b : Bool). Measured 0 (object ms) (cond b None (Some 1))) (option_map_or is_static_array (class_of ms) false)
+    (λ is. let some = some_count (natural_in (codes "length") ms) in inl (some.0 ∷ [], Nest.innermost ms some.0 (class_told is_static_array places.StaticArray only_static (class_of ms) is, some.1), omega arith)) (λ is. single 0 (object ms) (λ ns n. no_array ms ns n is))
 measured (suc levels) (object ms) =
     let count = at_least_one (natural_in (codes "length") ms) in
-    by_test (λ (b : Bool). Measured (suc levels) (object ms) (cond b (elements_in_array levels count ms) (Some 1))) (is_static_array (class_of ms)) (λ is.
+    by_test (λ (b : Bool). Measured (suc levels) (object ms) (cond b (elements_in_array levels count ms) (Some 1))) (option_map_or is_static_array (class_of ms) false) (λ is.
     let some = some_count (natural_in (codes "length") ms) in
     subst (Measured (suc levels) (object ms)) (sym (in_array levels count ms ∙ ap (λ c. of_element levels c (get_member (codes "element-field-type") ms)) some.1))
-    (array_measured levels ms some.0 (static_told (class_of ms) (ap not is), some.1) some.2 (measured levels) _ refl)) (λ is. single (suc levels) (object ms) (λ ns n. no_array ms ns n is))
+    (array_measured levels ms some.0 (class_told is_static_array places.StaticArray only_static (class_of ms) is, some.1) some.2 (measured levels) _ refl)) (λ is. single (suc levels) (object ms) (λ ns n. no_array ms ns n is))
 measured levels d = single levels d (λ ms n is. absurd cc)
 
 elements_told : (d : Data) → elements 8 d ≡ None → HasTooManyElements d
@@ -184,53 +185,15 @@ label_fails place name = (
       rw labels (lt-leb (length name) 4096 long),
 )
 
--- ---- a limit is one of the value, or of what it holds
-
-abbrev IsPassedAt : Place → Members → List ℕ → Data → Flaw → Type 0
-IsPassedAt place before name d flaw = ((flaw ≡ here Limit) × IsLongLabel place name) ⊎ ((content : Content) × (content_under place name ≡ Some content) × PassesLimitOf content d flaw)
-
-abbrev IsItemPassed : Place → ℕ → Data → Flaw → Type 0
-IsItemPassed place i d flaw = PassesLimitOf (item_content place) d flaw
-
-abbrev IsPassedInside : Data → Content → Flaw → Type 0
-IsPassedInside (object ms) (contents.At place) flaw = OfMembers (IsPassedAt (place_of_properties place ms)) no_members ms flaw
-IsPassedInside (array ds) (contents.At place) flaw = OfItems (IsItemPassed place) 0 ds flaw
-IsPassedInside _ _ flaw = ⊥
-
-of_value : (content : Content) (d : Data) (flaw : Flaw) → PassesLimitOf content d flaw → ((flaw ≡ here Limit) × PassesBy content d) ⊎ IsPassedInside d content flaw
-of_value content d flaw (PassesLimitOf.too_large passed) = inl (refl, passed)
-of_value content d flaw (PassesLimitOf.long_label {place = place} {ms = ms} label v entries has is labels long) = inr (among (IsPassedAt (place_of_properties place ms)) no_members ms label v (here Limit) has (λ b. inl (refl, (entries, is, labels, long))))
-of_value content d flaw (PassesLimitOf.in_property {place = place} {ms = ms} name v inner f has is passed) = inr (among (IsPassedAt (place_of_properties place ms)) no_members ms name v f has (λ b. inr (inner, is, passed)))
-of_value content d flaw (PassesLimitOf.in_item {place = place} {ds = ds} i v f is passed) = inr (item_among (IsItemPassed place) ds 0 i i v f (omega arith) is passed)
-
-from_inside : (d : Data) (content : Content) (flaw : Flaw) → IsPassedInside d content flaw → PassesLimitOf content d flaw
-from_inside (object ms) (contents.At place) flaw passed =
-    let (before, name, d, f, behind, has, same, at) = one_member (IsPassedAt (place_of_properties place ms)) ms no_members ms flaw Parts.at_the_first passed in
-    subst (PassesLimitOf (contents.At place) (object ms)) (sym same) (elim at [
-      | inl (is, (entries, map, labels, long)) ↦ subst (λ x. PassesLimitOf (contents.At place) (object ms) (within (key name) x)) (sym is) (PassesLimitOf.long_label name d entries has map labels long)
-      | inr (content, is, inner) ↦ PassesLimitOf.in_property name d content f has is inner
-    ])
-from_inside (array ds) (contents.At place) flaw passed =
-    let (n, d, f, is, same, inner) = one_item (IsItemPassed place) ds 0 ds flaw (from_start ds) passed in subst (PassesLimitOf (contents.At place) (array ds)) (sym same) (PassesLimitOf.in_item n d f is inner)
-from_inside _ _ flaw passed = absurd passed
-
-value_or_inside : (content : Content) (d : Data) (flaw : Flaw) → (((flaw ≡ here Limit) × PassesBy content d) ⊎ IsPassedInside d content flaw) ↔ PassesLimitOf content d flaw
-value_or_inside content d flaw = (λ either. elim either [ inl (is, passed) ↦ subst (PassesLimitOf content d) (sym is) (PassesLimitOf.too_large passed) | inr inside ↦ from_inside d content flaw inside ], of_value content d flaw)
-
--- ---- the walk
+-- ---- each limit that is told of
 
 -- what fails a test is a limit that is passed
-limit_tells : (Q : Type 0) (b : Bool) → (b ≡ false) ↔ Q → Tell (λ flaw. (flaw ≡ here Limit) × Q) (told_by (within_limit b))
-limit_tells Q true same = (All-nil (λ flaw. (flaw ≡ here Limit) × Q), λ e flaw passed. absurd (true≢false (same.1 passed.1)))
-limit_tells Q false same = (All-cons (λ flaw. (flaw ≡ here Limit) × Q) (here Limit) [] (refl, same.0 refl) (All-nil (λ flaw. (flaw ≡ here Limit) × Q)), λ e. absurd cc)
+limited : (P : Flaw → Type 0) (b : Bool) → (b ≡ false → P (here Limit)) → All P (told_by (within_limit b))
+limited P true fails = All-nil P
+limited P false fails = All-cons P (here Limit) [] (fails refl) (All-nil P)
 
-value_tells : (content : Content) (d : Data) → Tell (IsPassedInside d content) (inner_limits content d) → Tell (PassesLimitOf content d) (content_limits content d)
-value_tells content d held =
-    same_tell (λ flaw. ((flaw ≡ here Limit) × PassesBy content d) ⊎ IsPassedInside d content flaw) (PassesLimitOf content d) (content_limits content d) (value_or_inside content d)
-    (both_tell (λ flaw. (flaw ≡ here Limit) × PassesBy content d) (IsPassedInside d content) (told_by (within_limit (fits content d))) (inner_limits content d) (limit_tells (PassesBy content d) (fits content d) (by_fails content d)) held)
-
-abbrev IsPassedUnder : Place → List ℕ → Data → Flaw → Type 0
-IsPassedUnder place name d flaw = (content : Content) × (content_under place name ≡ Some content) × PassesLimitOf content d flaw
+value_told : (content : Content) (d : Data) → All (PassesLimitOf content d) (inner_limits content d) → All (PassesLimitOf content d) (content_limits content d)
+value_told content d held = All-append (PassesLimitOf content d) (told_by (within_limit (fits content d))) _ (limited (PassesLimitOf content d) (fits content d) (λ fails. PassesLimitOf.too_large ((by_fails content d).0 fails))) held
 
 -- nothing is asked of what is unknown
 unknown_fits : (d : Data) → content_limits contents.Anything d ≡ []
@@ -238,40 +201,62 @@ unfolding fits
 unknown_fits (object ms) = refl
 unknown_fits _ = refl
 
-member_tells : (place : Place) (name : List ℕ) (d : Data) → ((content : Content) → Tell (IsPassedInside d content) (inner_limits content d)) → Tell (IsPassedUnder place name d) (content_limits (unwrap_or (content_under place name) contents.Anything) d)
-member_tells place name d held =
-    by_found (λ (o : Option Content). Tell (IsPassedUnder place name d) (content_limits (unwrap_or o contents.Anything) d)) (content_under place name)
-    (λ none. subst (Tell (IsPassedUnder place name d)) (sym (unknown_fits d)) (All-nil (IsPassedUnder place name d), λ e flaw passed. some_none (content_under place name) passed.0 passed.1 none))
-    (λ content is. same_tell (PassesLimitOf content d) (IsPassedUnder place name d) (content_limits content d)
-    (λ flaw. (λ passed. (content, is, passed), λ (c, there, passed). subst (λ x. PassesLimitOf x d flaw) (some_same (content_under place name) c content there is) passed)) (value_tells content d (held content)))
+property_told : (place : Place) (all : Members) (name : List ℕ) (d : Data) → HasMember name d all → ((content : Content) → All (PassesLimitOf content d) (inner_limits content d))
+    → All (λ flaw. PassesLimitOf (contents.At place) (object all) (within (key name) flaw)) (limits_at (place_of_properties place all) name d)
+property_told place all name d has held =
+    let p = place_of_properties place all in
+    let P : Flaw → Type 0 = λ flaw. PassesLimitOf (contents.At place) (object all) (within (key name) flaw) in
+    All-append P (told_by (within_limit (key_fits p name))) _ (limited P (key_fits p name) (λ fails. let (entries, is, label, long) = (label_fails p name).0 fails in PassesLimitOf.long_label name d entries has is label long))
+    (by_found (λ (o : Option Content). All P (content_limits (unwrap_or o contents.Anything) d)) (content_under p name) (λ none. subst (All P) (sym (unknown_fits d)) (All-nil P))
+    (λ content is. All-weaker (PassesLimitOf content d) P (λ f passed. PassesLimitOf.in_property name d content f has is passed) (content_limits content d) (value_told content d (held content))))
 
 mutual
-  inner_tells : (d : Data) (content : Content) → Tell (IsPassedInside d content) (inner_limits content d)
-  inner_tells (array ds) (contents.At place) = items_tell ds place 0
-  inner_tells (object ms) (contents.At place) = members_tell ms (place_of_properties place ms) no_members
-  inner_tells _ _ = (All-nil _, λ e flaw passed. passed)
+  inner_told : (d : Data) (content : Content) → All (PassesLimitOf content d) (inner_limits content d)
+  inner_told (array ds) (contents.At place) = items_told ds place ds 0 (from_start ds)
+  inner_told (object ms) (contents.At place) = members_told ms place ms (λ name d has. has)
+  inner_told _ _ = All-nil _
 
-  items_tell : (rest : Items) (place : Place) (i : ℕ) → Tell (OfItems (IsItemPassed place) i rest) (item_limits place i rest)
-  items_tell no_items place i = (All-nil _, λ e flaw passed. passed)
-  items_tell (item d rest) place i = seen_tell (PassesLimitOf (item_content place) d) (OfItems (IsItemPassed place) (suc i) rest) (within (index i)) _ _ (value_tells (item_content place) d (inner_tells d (item_content place))) (items_tell rest place (suc i))
+  items_told : (rest : Items) (place : Place) (all : Items) (i : ℕ) → IsFrom all i rest → All (PassesLimitOf (contents.At place) (array all)) (item_limits place i rest)
+  items_told no_items place all i from = All-nil _
+  items_told (item d rest) place all i from =
+      seen (PassesLimitOf (item_content place) d) (PassesLimitOf (contents.At place) (array all)) (within (index i)) _ _ (value_told (item_content place) d (inner_told d (item_content place)))
+      (λ f passed. PassesLimitOf.in_item i d f (item_here all i d rest from) passed) (items_told rest place all (suc i) (from_next all i d rest from))
 
-  members_tell : (rest : Members) (place : Place) (before : Members) → Tell (OfMembers (IsPassedAt place) before rest) (member_limits place rest)
-  members_tell no_members place before = (All-nil _, λ e flaw passed. passed)
-  members_tell (member name d rest) place before =
-      seen_tell (IsPassedAt place before name d) (OfMembers (IsPassedAt place) (member name d before) rest) (within (key name)) _ _
-      (both_tell (λ flaw. (flaw ≡ here Limit) × IsLongLabel place name) (IsPassedUnder place name d) (told_by (within_limit (key_fits place name))) _ (limit_tells (IsLongLabel place name) (key_fits place name) (label_fails place name)) (member_tells place name d (inner_tells d)))
-      (members_tell rest place (member name d before))
+  members_told : (rest : Members) (place : Place) (all : Members) → ((name : List ℕ) (d : Data) → HasMember name d rest → HasMember name d all) → All (PassesLimitOf (contents.At place) (object all)) (member_limits (place_of_properties place all) rest)
+  members_told no_members place all there = All-nil _
+  members_told (member name d rest) place all there =
+      seen (λ flaw. PassesLimitOf (contents.At place) (object all) (within (key name) flaw)) (PassesLimitOf (contents.At place) (object all)) (within (key name)) _ _
+      (property_told place all name d (there name d (inl (refl, refl))) (inner_told d)) (λ f passed. passed) (members_told rest place all (λ n x has. there n x (inr has)))
 
-walk_tells : (d : Data) → Tell (PassesLimitOf (contents.At places.Root) d) (configuration_limits d)
-walk_tells d = value_tells (contents.At places.Root) d (inner_tells d (contents.At places.Root))
+-- ---- where none is told of there is none
 
--- each limit of a whole configuration
+item_fits : (place : Place) (rest : Items) (i j : ℕ) (d : Data) → item_limits place i rest ≡ [] → get_item j rest ≡ Some d → content_limits (item_content place) d ≡ []
+item_fits place no_items i j d e is = absurd cc
+item_fits place (item x rest) i zero d e is = let same : x ≡ d = cc in subst (λ y. content_limits (item_content place) y ≡ []) same (first_item_limits place i x rest e).0
+item_fits place (item x rest) i (suc j) d e is = item_fits place rest (suc i) j d (first_item_limits place i x rest e).1 is
+
+member_fits : (place : Place) (ms : Members) (name : List ℕ) (d : Data) → member_limits place ms ≡ [] → HasMember name d ms → limits_at place name d ≡ []
+member_fits place ms name d e has = at_member (λ xs. member_limits place xs ≡ []) (λ n x. limits_at place n x ≡ []) (first_limits place) name ms d e has
+
+none_of : (content : Content) (d : Data) (flaw : Flaw) → PassesLimitOf content d flaw → ¬ (content_limits content d ≡ [])
+none_of content d flaw (PassesLimitOf.too_large passed) e = true≢false (sym (fits_there (fits content d) _ e).0 ∙ (by_fails content d).1 passed)
+none_of content d flaw (PassesLimitOf.long_label {place = place} {ms = ms} label v entries has is labels long) e =
+    let p = place_of_properties place ms in
+    true≢false (sym (fits_there (key_fits p label) _ (member_fits p ms label v (fits_there (fits content d) _ e).1 has)).0 ∙ (label_fails p label).1 (entries, is, labels, long))
+none_of content d flaw (PassesLimitOf.in_property {place = place} {ms = ms} name v inner f has is passed) e =
+    let p = place_of_properties place ms in
+    let limits = (fits_there (key_fits p name) _ (member_fits p ms name v (fits_there (fits content d) _ e).1 has)).1 in
+    none_of inner v f passed (subst (λ o. content_limits (unwrap_or o contents.Anything) v ≡ []) is limits)
+none_of content d flaw (PassesLimitOf.in_item {place = place} {ds = ds} i v f is passed) e = none_of (item_content place) v f passed (item_fits place ds 0 i v (fits_there (fits content d) _ e).1 is)
+
+-- ---- a whole configuration
+
 pub limit_told : (d : Data) (flaw : Flaw) → Contains (configuration_limits d) flaw → PassesLimitOf (contents.At places.Root) d flaw
-limit_told d flaw told = All-contains (PassesLimitOf (contents.At places.Root) d) (configuration_limits d) flaw (walk_tells d).0 told
+limit_told d flaw told = All-contains (PassesLimitOf (contents.At places.Root) d) (configuration_limits d) flaw (value_told (contents.At places.Root) d (inner_told d (contents.At places.Root))) told
 
 -- where no limit is told of a whole configuration
 pub none_passed : (d : Data) (flaw : Flaw) → configuration_limits d ≡ [] → ¬ PassesLimitOf (contents.At places.Root) d flaw
-none_passed d flaw e = (walk_tells d).1 e flaw
+none_passed d flaw e passed = none_of (contents.At places.Root) d flaw passed e
 
 -- what the judge of a configuration's limits answers is a limit that it passes
 pub refused_told : (d : Data) (flaw : Flaw) → refusal (configuration_limits d) ≡ Err flaw → PassesLimitOf (contents.At places.Root) d flaw

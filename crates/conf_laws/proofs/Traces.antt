@@ -4,31 +4,21 @@ use Rattle.std.proofs.Common.{◌≡◌, ℕ, ◌&&◌, Bool, true, false, cond,
 use Rattle.conf_laws.proofs.AllowedMaps.{IsMade, integer_says, config_name, AreAllowed, AreUnder, none_under, one_under, map_allowed, AreClocks, clocks_allowed, IsEnvironment, environment_allowed}
 use Rattle.conf_laws.proofs.Structures.{AreExtras, structure_says, extras_says}
 use Rattle.conf_laws.proofs.Numbers.{number_told, natural_is_in}
-use Rattle.conf_laws.proofs.Properties.{IsWithin, AreWithin, is_within, object_within, optional_within, entry_within, all_within, flaws_in, names_of, Property, leads, needed_by, OwnPlace, is_object, is_own, MapPlace, is_map, type_object}
-use Rattle.conf_laws.proofs.Readings.{Says, some_same, mapped_says, same_natural, was_so, object_there, optional_found, by_found}
-use Rattle.conf_laws.proofs.Sound.{TypeSound, type_sound, unsigned_told, Leads, RowsSound, needed_sound, optional_sound, ObjectSound, ContentSound, object_sound, content_sound, held_at, first_entry, needed_object}
-use Rattle.conf_laws.proofs.Words.{admits_class, Place, At, Level, class_of, is_null, Known, inside, behind, nothing, members_or_none, natural_in, is_position, shape_of, is_identifier, is_byte, is_unsigned_integer, is_number, is_eight, at_most, entries_of, key_of, key_by, itself_of, leaf_of, level, whole_from, member_flaws, configuration_flaws, configuration_limits, Ascends, All-map, IsStreamType, IsEventType, IsConfig, IsPlainName, ClockType, Draft, KeepsStreamRules, KeepsRules, RecordHasBits, optional, as_natural, Data, null, boolean, object, string, Members, no_members, members_len, get_member, member, as_object, here, NoSuchAlias, false≢true, and_parts, same_Some, append-nil, option_map_or, alignment_of, alignment, number_type, magic_type, byte_type, feature_of, feature, byte_of, identifier, size, mapped, timestamp, header, context, event_header, integer, size_of, default_align, integer_align as align_of, natural, object_at as object_named, properties, said_behind, word, OnlyIf, IsPlainUnsigned, ContextFeatures, EventFeatures, HeaderFeatures, IntType, environment, level_of, event_type, event_types, clock_of, stream_type, stream_types, draft_with, draft_of_type, draft_of_trace, draft_of_root, draft_of, IsConfigStruct, IsConfigName, Config, EnvironmentEntry, EventType, StreamType, is_unsigned_class}
+use Rattle.conf_laws.proofs.Properties.{IsWithin, AreWithin, is_within, object_within, optional_within, entry_within, all_within, flaws_in, names_of, OwnPlace, is_object, is_own, MapPlace, is_map, type_object}
+use Rattle.conf_laws.proofs.Readings.{Says, some_same, mapped_says, same_natural, class_told, only_unsigned, only_static, object_there, optional_found, by_found}
+use Rattle.conf_laws.proofs.Sound.{TypeSound, type_sound, HasRow, RowsSound, needed_sound, optional_sound, ObjectSound, ContentSound, object_sound, content_sound, held_at, first_entry, needed_object}
+use Rattle.conf_laws.proofs.Words.{is_passed, rows_of, Presence, admits_class, Place, At, Level, class_of, is_null, Known, inside, behind, nothing, members_or_none, natural_in, is_position, shape_of, is_identifier, is_byte, is_unsigned_integer, is_number, is_eight, at_most, entries_of, key_of, key_by, itself_of, leaf_of, level, whole_from, member_flaws, configuration_flaws, configuration_limits, Ascends, All-map, IsStreamType, IsEventType, IsConfig, IsPlainName, ClockType, Draft, KeepsStreamRules, KeepsRules, RecordHasBits, optional, as_natural, Data, null, boolean, object, string, Members, no_members, members_len, get_member, member, as_object, here, NoSuchAlias, false≢true, and_parts, same_Some, append-nil, option_map_or, alignment_of, alignment, number_type, magic_type, byte_type, feature_of, feature, byte_of, identifier, size, mapped, timestamp, header, context, event_header, integer, size_of, default_align, integer_align as align_of, natural, object_at as object_named, properties, said_behind, word, OnlyIf, IsPlainUnsigned, ContextFeatures, EventFeatures, HeaderFeatures, IntType, environment, level_of, event_type, event_types, clock_of, stream_type, stream_types, draft_with, draft_of_type, draft_of_trace, draft_of_root, draft_of, IsConfigStruct, IsConfigName, Config, EnvironmentEntry, EventType, StreamType}
 use Rattle.conf_laws.proofs.Words.places
 
 -- ---- unsigned integers
 
 -- a position where an unsigned integer alone may stand
-data FeaturePlace : Place → Type 0 where
-  any : FeaturePlace places.Feature
-  size_of_packet : FeaturePlace places.SizeFeature
-  magic_number : FeaturePlace places.MagicFeature
-
-only_unsigned : (c : Place) → is_unsigned_class c ≡ true → c ≡ places.UnsignedInteger
-only_unsigned places.UnsignedInteger a = refl
-only_unsigned _ a = absurd (false≢true a)
-
-position_of : {place : Place} → FeaturePlace place → (is_position place ≡ true) × ((c : Place) → admits_class place c ≡ true → c ≡ places.UnsignedInteger)
-unfolding is_position admits_class
-position_of FeaturePlace.any = (refl, only_unsigned)
-position_of _ = (refl, only_unsigned)
+abbrev IsUnsignedPlace : Place → Type 0
+IsUnsignedPlace place = (is_position place ≡ true) × ((c : Place) → admits_class place c ≡ true → c ≡ places.UnsignedInteger)
 
 unsigned_says : (k : Known) (place : Place) (ms : Members) (t : TypeSound k place ms) → t.class ≡ places.UnsignedInteger → Says (integer false ms) (IsMade (size_of ms) (align_of ms) false)
-unsigned_says k place ms t is = integer_says (inside t.class ms k) places.UnsignedInteger false ms Property.unsigned_size (subst (λ p. RowsSound (inside t.class ms k) p ms) is t.rows)
+unfolding rows_of
+unsigned_says k place ms t is = integer_says (inside t.class ms k) places.UnsignedInteger false ms (refl, refl) (subst (λ p. RowsSound (inside t.class ms k) p ms) is t.rows)
 
 size_is : (ms : Members) (t : IntType) (n : ℕ) → IsMade (size_of ms) (align_of ms) false t → is_number (natural_in (codes "size") ms) n ≡ true → t.size ≡ n
 unfolding size_of
@@ -49,14 +39,11 @@ value_says P of b t _ h own = (_, refl, on_or_off P b t h)
 abbrev pub IsOfClock : Option (List ℕ) → IntType → Type 0
 IsOfClock clock t = (t.signed ≡ false) × (t.clock ≡ clock)
 
-mapped_of : (clock : Option (List ℕ)) (t : IntType) → IsPlainUnsigned t → IsOfClock clock (mapped clock t)
-unfolding mapped
-mapped_of None t plain = plain
-mapped_of (Some c) t plain = (plain.0, refl)
-
 mapped_only : (clock : Option (List ℕ)) (o : Option IntType) → OnlyIf o IsPlainUnsigned → OnlyIf (option_map (mapped clock) o) (IsOfClock clock)
+unfolding mapped
 mapped_only clock None plain = λ t is. absurd cc
-mapped_only clock (Some x) plain = λ t is. subst (IsOfClock clock) (same_Some (mapped clock x) t is) (mapped_of clock x (plain x refl))
+mapped_only None (Some x) plain = plain
+mapped_only (Some c) (Some x) plain = λ t is. subst (IsOfClock (Some c)) (same_Some (mapped (Some c) x) t is) ((plain x refl).0, refl)
 
 plain_or : (o : Option IntType) → OnlyIf o IsPlainUnsigned → IsPlainUnsigned (unwrap_or o number_type)
 plain_or None only = (refl, refl)
@@ -65,32 +52,31 @@ plain_or (Some t) only = only t refl
 -- the features of an object
 module _ (k : Known) (around : Place) (ms : Members) (f : member_flaws k around ms ≡ []) where
   -- where each object at a place says a type, so does the feature
-  own_says : (P : IntType → Type 0) (place : Place) (name : List ℕ) (b : Bool) (t : IntType) (of : Members → Option IntType) → Leads around name (At place) → P t → ((own : Members) → ObjectSound k place own → Says (of own) P)
+  own_says : (P : IntType → Type 0) (place : Place) (name : List ℕ) (b : Bool) (t : IntType) (of : Members → Option IntType) → {presence : Presence} → HasRow around name presence (At place) → P t → ((own : Members) → ObjectSound k place own → Says (of own) P)
       → Says (feature_of of b t (optional name ms)) (λ x. OnlyIf x P)
-  own_says P place name b t of leads h each =
-      value_says P of b t (optional name ms) h (λ own is. each own (object_sound k place own (optional_sound k around name (At place) ms (object own) leads f is).value.inner))
+  own_says P place name b t of row h each =
+      value_says P of b t (optional name ms) h (λ own is. each own (object_sound k place own (optional_sound k around name (At place) ms (object own) row f is).value.inner))
 
-  integer_feature : (P : IntType → Type 0) (place : Place) (name : List ℕ) (b : Bool) (t : IntType) → FeaturePlace place → Leads around name (At place) → P t
+  integer_feature : (P : IntType → Type 0) (place : Place) (name : List ℕ) (b : Bool) (t : IntType) → IsUnsignedPlace place → {presence : Presence} → HasRow around name presence (At place) → P t
       → ((own : Members) (x : IntType) → ObjectSound k place own → IsMade (size_of own) (align_of own) false x → P x) → Says (feature name b t ms) (λ x. OnlyIf x P)
   unfolding feature
-  integer_feature P place name b t at leads h each = own_says P place name b t (integer false) leads h (λ own sound.
-      let position = position_of at in
-      let t = type_sound k place own position.0 sound in
-      let x = unsigned_says k place own t (position.1 t.class t.may_stand) in
+  integer_feature P place name b t at row h each = own_says P place name b t (integer false) row h (λ own sound.
+      let t = type_sound k place own at.0 sound in
+      let x = unsigned_says k place own t (at.1 t.class t.may_stand) in
       (x.0, x.1, each own x.0 sound x.2))
 
-  plain_feature : (place : Place) (name : List ℕ) (b : Bool) → FeaturePlace place → Leads around name (At place) → Says (feature name b number_type ms) (λ x. OnlyIf x IsPlainUnsigned)
-  plain_feature place name b at leads = integer_feature IsPlainUnsigned place name b number_type at leads (refl, refl) (λ own x sound made. (made.sign_is, made.no_clock))
+  plain_feature : (place : Place) (name : List ℕ) (b : Bool) → IsUnsignedPlace place → {presence : Presence} → HasRow around name presence (At place) → Says (feature name b number_type ms) (λ x. OnlyIf x IsPlainUnsigned)
+  plain_feature place name b at row = integer_feature IsPlainUnsigned place name b number_type at row (refl, refl) (λ own x sound made. (made.sign_is, made.no_clock))
 
-  size_says : (name : List ℕ) → Leads around name (At places.SizeFeature) → Says (size name ms) IsPlainUnsigned
-  unfolding size
-  size_says name leads =
-      mapped_says (λ x. OnlyIf x IsPlainUnsigned) IsPlainUnsigned (λ t. unwrap_or t number_type) (feature name true number_type ms) plain_or (plain_feature places.SizeFeature name true FeaturePlace.size_of_packet leads)
+  size_says : (name : List ℕ) → {presence : Presence} → HasRow around name presence (At places.SizeFeature) → Says (size name ms) IsPlainUnsigned
+  unfolding size is_position admits_class
+  size_says name row =
+      mapped_says (λ x. OnlyIf x IsPlainUnsigned) IsPlainUnsigned (λ t. unwrap_or t number_type) (feature name true number_type ms) plain_or (plain_feature places.SizeFeature name true (refl, only_unsigned) row)
 
-  timestamp_says : (name : List ℕ) (clock : Option (List ℕ)) → Leads around name (At places.Feature) → Says (timestamp name clock ms) (λ x. OnlyIf x (IsOfClock clock))
-  unfolding timestamp
-  timestamp_says name clock leads =
-      mapped_says (λ x. OnlyIf x IsPlainUnsigned) (λ x. OnlyIf x (IsOfClock clock)) (option_map (mapped clock)) (feature name (is_some clock) number_type ms) (mapped_only clock) (plain_feature places.Feature name (is_some clock) FeaturePlace.any leads)
+  timestamp_says : (name : List ℕ) (clock : Option (List ℕ)) → {presence : Presence} → HasRow around name presence (At places.Feature) → Says (timestamp name clock ms) (λ x. OnlyIf x (IsOfClock clock))
+  unfolding timestamp is_position admits_class
+  timestamp_says name clock row =
+      mapped_says (λ x. OnlyIf x IsPlainUnsigned) (λ x. OnlyIf x (IsOfClock clock)) (option_map (mapped clock)) (feature name (is_some clock) number_type ms) (mapped_only clock) (plain_feature places.Feature name (is_some clock) (refl, only_unsigned) row)
 
 -- ---- an identifier
 
@@ -109,28 +95,23 @@ byte_says : (k : Known) (x : Data) → ContentSound k (At places.ElementType) x 
 unfolding is_position align_of alignment natural
 byte_says k (object ms) h e =
     let t = type_sound k places.ElementType ms refl (object_sound k places.ElementType ms h.inner) in
-    let p = and_parts (is_unsigned_integer (class_of ms)) (is_number (natural_in (codes "size") ms) 8 && is_eight (optional (codes "alignment") ms)) e in
+    let p = and_parts (option_map_or is_unsigned_integer (class_of ms) false) (is_number (natural_in (codes "size") ms) 8 && is_eight (optional (codes "alignment") ms)) e in
     let q = and_parts (is_number (natural_in (codes "size") ms) 8) (is_eight (optional (codes "alignment") ms)) p.1 in
-    let x = unsigned_says k places.ElementType ms t (same_Some t.class places.UnsignedInteger (sym t.is ∙ unsigned_told (class_of ms) p.0)) in
+    let x = unsigned_says k places.ElementType ms t (same_Some t.class places.UnsignedInteger (sym t.is ∙ class_told is_unsigned_integer places.UnsignedInteger only_unsigned (class_of ms) p.0)) in
     let made = x.2 in
     let size = size_is ms x.0 8 made q.0 in
     (x.0, x.1, ((made.sign_is, made.no_clock), size, made.align_is ∙ eight_aligned (optional (codes "alignment") ms) (size_of ms) q.1 (sym made.size_is ∙ size)))
 byte_says k _ h e = absurd (false≢true e)
 
-array_class : (class : Place) → admits_class places.IdentifierFeature class ≡ true → class ≡ places.StaticArray
-unfolding admits_class
-array_class places.StaticArray a = refl
-array_class _ a = absurd (false≢true a)
-
 bytes_say : (k : Known) (ms : Members) → ObjectSound k places.IdentifierFeature ms → Says (byte_of ms) IsByte
-unfolding is_position shape_of is_identifier byte_of object_named
+unfolding is_position shape_of is_identifier byte_of object_named admits_class rows_of
 bytes_say k ms h =
     let t = type_sound k places.IdentifierFeature ms refl h in
-    let rows = subst (λ p. RowsSound (inside t.class ms k) p ms) (array_class t.class t.may_stand) t.rows in
-    let p = needed_sound (inside t.class ms k) places.StaticArray (codes "element-field-type") (At places.ElementType) ms (leads Property.element) (needed_by Property.element) rows in
-    let shaped = (and_parts (is_number (natural_in (codes "length") ms) 16) (is_byte (get_member (codes "element-field-type") ms)) (was_so _ t.shape)).1 in
-    let byte : is_byte (Some p.value) ≡ true = ap is_byte (sym p.found) ∙ shaped in
-    subst (λ o. Says (option_and_then (integer false) (option_and_then as_object o)) IsByte) (sym (optional_found (codes "element-field-type") ms p.value p.found (is_no_null p.value byte))) (byte_says (inside t.class ms k) p.value p.sound.value byte)
+    let rows = subst (λ p. RowsSound (inside t.class ms k) p ms) (only_static t.class t.may_stand) t.rows in
+    let (d, found, sound) = needed_sound (inside t.class ms k) places.StaticArray (codes "element-field-type") (At places.ElementType) ms (refl, refl) rows in
+    let shaped = (and_parts (is_number (natural_in (codes "length") ms) 16) (is_byte (get_member (codes "element-field-type") ms)) (is_passed _ tt tt _ t.shape).0).1 in
+    let byte : is_byte (Some d) ≡ true = ap is_byte (sym found) ∙ shaped in
+    subst (λ o. Says (option_and_then (integer false) (option_and_then as_object o)) IsByte) (sym (optional_found (codes "element-field-type") ms d found (is_no_null d byte))) (byte_says (inside t.class ms k) d sound.value byte)
 
 -- ---- the features of a trace, a packet and an event record
 
@@ -143,11 +124,11 @@ pub record IsHeader (f : HeaderFeatures) : Type 0 where
   pub stream_id : OnlyIf f.stream_id IsPlainUnsigned
 
 header_says : (k : Known) (has : Bool) (ms : Members) → member_flaws k places.TraceFeatures ms ≡ [] → Says (header has ms) IsHeader
-unfolding header shape_of identifier
+unfolding header shape_of identifier rows_of is_position admits_class
 header_says k has ms f =
-    let magic = integer_feature k places.TraceFeatures ms f IsMagic places.MagicFeature (codes "magic-field-type") true magic_type FeaturePlace.magic_number (leads Property.magic) ((refl, refl), refl) (λ own x sound made. ((made.sign_is, made.no_clock), size_is own x 32 made (was_so _ sound.shape))) in
-    let uuid = own_says k places.TraceFeatures ms f IsByte places.IdentifierFeature (codes "uuid-field-type") has byte_type byte_of (leads Property.uuid) ((refl, refl), refl, refl) (bytes_say k) in
-    let stream_id = plain_feature k places.TraceFeatures ms f places.Feature (codes "data-stream-type-id-field-type") true FeaturePlace.any (leads Property.stream_id) in
+    let magic = integer_feature k places.TraceFeatures ms f IsMagic places.MagicFeature (codes "magic-field-type") true magic_type (refl, only_unsigned) (refl, refl) ((refl, refl), refl) (λ own x sound made. ((made.sign_is, made.no_clock), size_is own x 32 made (is_passed _ tt tt _ sound.shape).0)) in
+    let uuid = own_says k places.TraceFeatures ms f IsByte places.IdentifierFeature (codes "uuid-field-type") has byte_type byte_of (refl, refl) ((refl, refl), refl, refl) (bytes_say k) in
+    let stream_id = plain_feature k places.TraceFeatures ms f places.Feature (codes "data-stream-type-id-field-type") true (refl, only_unsigned) (refl, refl) in
     (record { magic = magic.0; uuid = uuid.0; stream_id = stream_id.0 }, rw (magic.1, uuid.1, stream_id.1) refl, record { magic = magic.2; uuid = uuid.2; stream_id = stream_id.2 })
 
 pub record IsContext (clock : Option (List ℕ)) (f : ContextFeatures) : Type 0 where
@@ -159,14 +140,14 @@ pub record IsContext (clock : Option (List ℕ)) (f : ContextFeatures) : Type 0 
   pub packet_seq_num : OnlyIf f.packet_seq_num IsPlainUnsigned
 
 context_says : (k : Known) (clock : Option (List ℕ)) (ms : Members) → member_flaws k places.PacketFeatures ms ≡ [] → Says (context clock ms) (IsContext clock)
-unfolding context
+unfolding context rows_of is_position admits_class
 context_says k clock ms f =
-    let total = size_says k places.PacketFeatures ms f (codes "total-size-field-type") (leads Property.total_size) in
-    let content = size_says k places.PacketFeatures ms f (codes "content-size-field-type") (leads Property.content_size) in
-    let begin = timestamp_says k places.PacketFeatures ms f (codes "beginning-timestamp-field-type") clock (leads Property.beginning) in
-    let end = timestamp_says k places.PacketFeatures ms f (codes "end-timestamp-field-type") clock (leads Property.end) in
-    let discarded = plain_feature k places.PacketFeatures ms f places.Feature (codes "discarded-event-records-counter-snapshot-field-type") true FeaturePlace.any (leads Property.discarded) in
-    let sequence = plain_feature k places.PacketFeatures ms f places.Feature (codes "sequence-number-field-type") false FeaturePlace.any (leads Property.sequence) in
+    let total = size_says k places.PacketFeatures ms f (codes "total-size-field-type") (refl, refl) in
+    let content = size_says k places.PacketFeatures ms f (codes "content-size-field-type") (refl, refl) in
+    let begin = timestamp_says k places.PacketFeatures ms f (codes "beginning-timestamp-field-type") clock (refl, refl) in
+    let end = timestamp_says k places.PacketFeatures ms f (codes "end-timestamp-field-type") clock (refl, refl) in
+    let discarded = plain_feature k places.PacketFeatures ms f places.Feature (codes "discarded-event-records-counter-snapshot-field-type") true (refl, only_unsigned) (refl, refl) in
+    let sequence = plain_feature k places.PacketFeatures ms f places.Feature (codes "sequence-number-field-type") false (refl, only_unsigned) (refl, refl) in
     let said : ContextFeatures = record { packet_size = total.0; content_size = content.0; timestamp_begin = begin.0; timestamp_end = end.0; events_discarded = discarded.0; packet_seq_num = sequence.0 } in
     (said, rw (total.1, content.1, begin.1, end.1, discarded.1, sequence.1) refl, record { packet_size = total.2; content_size = content.2; timestamp_begin = begin.2; timestamp_end = end.2; events_discarded = discarded.2; packet_seq_num = sequence.2 })
 
@@ -175,10 +156,10 @@ pub record IsEventHeader (clock : Option (List ℕ)) (f : EventFeatures) : Type 
   pub timestamp : OnlyIf f.timestamp (IsOfClock clock)
 
 event_header_says : (k : Known) (clock : Option (List ℕ)) (ms : Members) → member_flaws k places.EventRecordFeatures ms ≡ [] → Says (event_header clock ms) (IsEventHeader clock)
-unfolding event_header
+unfolding event_header rows_of is_position admits_class
 event_header_says k clock ms f =
-    let id = plain_feature k places.EventRecordFeatures ms f places.Feature (codes "type-id-field-type") true FeaturePlace.any (leads Property.event_id) in
-    let timestamp = timestamp_says k places.EventRecordFeatures ms f (codes "timestamp-field-type") clock (leads Property.timestamp) in
+    let id = plain_feature k places.EventRecordFeatures ms f places.Feature (codes "type-id-field-type") true (refl, only_unsigned) (refl, refl) in
+    let timestamp = timestamp_says k places.EventRecordFeatures ms f (codes "timestamp-field-type") clock (refl, refl) in
     (record { id = id.0; timestamp = timestamp.0 }, rw (id.1, timestamp.1) refl, record { id = id.2; timestamp = timestamp.2 })
 
 -- ---- maps of types
@@ -205,11 +186,11 @@ module _ {A : Type 0} {place inner : Place} (named : A → List ℕ) (good : A �
       let said = ap (λ y. said_behind (of levels) done (member name y ms)) same ∙ ap (option_and_then (λ y. said_behind (of levels) (done ++ y ∷ []) ms)) (ap (λ l. of l name ns) (sym is) ∙ new.1) ∙ rest.1 in
       (rest.0, said, (x ∷ ys, sym (append_assoc done (x ∷ []) ys) ∙ rest.2.1, good_here))
 
-  map_says : (k : Known) {c : Bool} {around : Place} {name : List ℕ} → Property c around name (At place) → (ms levels : Members) → k.levels ≡ levels → member_flaws k around ms ≡ [] → Says (said_behind (of levels) [] (properties name ms)) (λ xs. AreWithin around ms → AreAllowed named good most xs)
-  map_says k {name = name} property ms levels is f =
-      let (xs, said, (ys, same, under)) = types_say levels k is (properties name ms) [] (flaws_in k property all ms f) in
+  map_says : (k : Known) (around : Place) (name : List ℕ) {presence : Presence} → HasRow around name presence (At place) → (ms levels : Members) → k.levels ≡ levels → member_flaws k around ms ≡ [] → Says (said_behind (of levels) [] (properties name ms)) (λ xs. AreWithin around ms → AreAllowed named good most xs)
+  map_says k around name row ms levels is f =
+      let (xs, said, (ys, same, under)) = types_say levels k is (properties name ms) [] (flaws_in k around name row all ms f) in
       let few = bounded (members_len (properties name ms)) in
-      (xs, said, λ h. let own = all_within property all ms h in subst (AreAllowed named good most) same (map_allowed named good most (properties name ms) ys own.0.in_order (sym few ∙ own.1) (under own.0)))
+      (xs, said, λ h. let own = all_within around name row all ms h in subst (AreAllowed named good most) same (map_allowed named good most (properties name ms) ys own.0.in_order (sym few ∙ own.1) (under own.0)))
 
 -- ---- event record types
 
@@ -226,20 +207,20 @@ level_small levels (string name) n judged is =
 level_small levels d n judged is = small d n judged is
 
 level_allowed : (k : Known) (ms : Members) (n : ℕ) → member_flaws k places.EventType ms ≡ [] → level_of k.levels (optional (codes "log-level") ms) ≡ Some n → n < 2 ^ 63
-unfolding itself_of leaf_of
+unfolding itself_of leaf_of rows_of
 level_allowed k ms n f e =
     by_found (λ (o : Option Data). level_of k.levels o ≡ Some n → n < 2 ^ 63) (optional (codes "log-level") ms)
-    (λ is e. absurd cc) (λ d is e. level_small k.levels d n (optional_sound k places.EventType (codes "log-level") (Level (pos highest)) ms d (leads Property.level) f is).value.itself e) e
+    (λ is e. absurd cc) (λ d is e. level_small k.levels d n (optional_sound k places.EventType (codes "log-level") (Level (pos highest)) ms d (refl, refl) f is).value.itself e) e
 
 -- the rules allow an event record type, where its records have bits
 abbrev IsGoodEvent : EventType → Type 0
 IsGoodEvent e = (s : StreamType) → RecordHasBits s e → IsEventType s e
 
 event_says : (k : Known) (name : List ℕ) (ms : Members) → IsConfigName name → member_flaws k places.EventType ms ≡ [] → Says (event_type k.levels name ms) (λ e. (e.name ≡ name) × (AreWithin places.EventType ms → IsGoodEvent e))
-unfolding event_type
+unfolding event_type rows_of
 event_says k name ms named f =
-    let specific = structure_says k Property.specific ms f in
-    let payload = structure_says k Property.payload ms f in
+    let specific = structure_says k places.EventType (codes "specific-context-field-type") (refl, refl) ms f in
+    let payload = structure_says k places.EventType (codes "payload-field-type") (refl, refl) ms f in
     let level = level_of k.levels (optional (codes "log-level") ms) in
     let said : EventType = record { name = name; log_level = level; specific = specific.0; payload = payload.0 } in
     (said, rw (specific.1, payload.1) refl, (refl, λ h s bits. record { name = named; log_level = λ n is. level_allowed k ms n f is; specific = specific.2 h; payload = payload.2 h; has_bits = bits }))
@@ -251,10 +232,10 @@ abbrev pub AreGoodEvents : List EventType → Type 0
 AreGoodEvents es = AreAllowed event_name IsGoodEvent 1024 es
 
 events_say : (k : Known) (ms : Members) → member_flaws k places.StreamType ms ≡ [] → Says (event_types k.levels ms) (λ es. AreWithin places.StreamType ms → AreGoodEvents es)
-unfolding event_types key_of key_by entries_of behind
+unfolding event_types key_of key_by entries_of behind rows_of
 events_say k ms f =
     map_says event_name IsGoodEvent MapPlace.event_types OwnPlace.event_type OwnPlace.event_types 1024 event_type (λ n. refl) (λ d j. refl) (λ j name d own judged flaws. event_says j name own (config_name name judged) flaws)
-    k Property.event_types ms k.levels refl f
+    k places.StreamType (codes "event-record-types") (refl, refl) ms k.levels refl f
 
 -- ---- data stream types
 
@@ -285,14 +266,14 @@ stream_allowed clocks s named packet extras head common all rules = record {
 }
 
 stream_says : (k : Known) (name : List ℕ) (ms : Members) → IsConfigName name → member_flaws k places.StreamType ms ≡ [] → Says (stream_type k.levels name ms) (λ s. (s.name ≡ name) × (AreWithin places.StreamType ms → IsGoodStream s))
-unfolding stream_type
+unfolding stream_type rows_of
 stream_says k name ms named f =
     let features = properties (codes "$features") ms in
-    let own = flaws_in k Property.stream_features OwnPlace.stream_features ms f in
-    let context = context_says k (clock_of ms) (properties (codes "packet") features) (flaws_in k Property.packet OwnPlace.packet_features features own) in
+    let own = flaws_in k places.StreamType (codes "$features") (refl, refl) OwnPlace.stream_features ms f in
+    let context = context_says k (clock_of ms) (properties (codes "packet") features) (flaws_in k places.StreamFeatures (codes "packet") (refl, refl) OwnPlace.packet_features features own) in
     let extras = extras_says k ms f in
-    let header = event_header_says k (clock_of ms) (properties (codes "event-record") features) (flaws_in k Property.event_record OwnPlace.record_features features own) in
-    let common = structure_says k Property.common ms f in
+    let header = event_header_says k (clock_of ms) (properties (codes "event-record") features) (flaws_in k places.StreamFeatures (codes "event-record") (refl, refl) OwnPlace.record_features features own) in
+    let common = structure_says k places.StreamType (codes "event-record-common-context-field-type") (refl, refl) ms f in
     let events = events_say k ms f in
     let said : StreamType = record { name = name; default_clock = clock_of ms; context = context.0; extras = extras.0; event_header = header.0; common = common.0; events = events.0 } in
     (said, rw (context.1, extras.1, header.1, common.1, events.1) refl, (refl, λ h clocks. stream_allowed clocks said named context.2 (extras.2 h) header.2 (common.2 h) (events.2 h)))
@@ -304,10 +285,10 @@ abbrev pub AreGoodStreams : List StreamType → Type 0
 AreGoodStreams ss = AreAllowed stream_name IsGoodStream 64 ss
 
 streams_say : (k : Known) (ms : Members) → k.levels ≡ properties (codes "$log-level-aliases") ms → member_flaws k places.TraceType ms ≡ [] → Says (stream_types ms) (λ ss. AreWithin places.TraceType ms → AreGoodStreams ss)
-unfolding stream_types key_of key_by entries_of behind
+unfolding stream_types key_of key_by entries_of behind rows_of
 streams_say k ms levels f =
     map_says stream_name IsGoodStream MapPlace.stream_types OwnPlace.stream_type OwnPlace.stream_types 64 stream_type (λ n. refl) (λ d j. refl) (λ j name d own judged flaws. stream_says j name own (config_name name judged) flaws)
-    k Property.stream_types ms (properties (codes "$log-level-aliases") ms) levels f
+    k places.TraceType (codes "data-stream-types") (refl, refl) ms (properties (codes "$log-level-aliases") ms) levels f
 
 -- ---- the trace
 
@@ -340,25 +321,25 @@ levels_same _ = refl
 
 type_says : (k : Known) (given : Option (List ℕ)) (entries : List EnvironmentEntry) (ms : Members) → k.levels ≡ properties (codes "$log-level-aliases") ms → member_flaws k places.TraceType ms ≡ []
     → Says (draft_of_type given entries ms) (λ draft. IsEnvironment entries → AreWithin places.TraceType ms → IsGoodConfig draft.config)
-unfolding draft_of_type
+unfolding draft_of_type rows_of
 type_says k given entries ms levels f =
-    let header = header_says k (is_some (word (codes "uuid") ms)) (properties (codes "$features") ms) (flaws_in k Property.trace_features OwnPlace.trace_features ms f) in
+    let header = header_says k (is_some (word (codes "uuid") ms)) (properties (codes "$features") ms) (flaws_in k places.TraceType (codes "$features") (refl, refl) OwnPlace.trace_features ms f) in
     let streams = streams_say k ms levels f in
     (_, ap (λ a. draft_with given entries ms a (stream_types ms)) header.1 ∙ ap (draft_with given entries ms (Some header.0)) streams.1, λ env h. config_allowed _ env (clocks_allowed k ms f h) header.2 (streams.2 h))
 
 trace_says : (k : Known) (given : Option (List ℕ)) (ms : Members) → RowsSound k places.Trace ms → Says (draft_of_trace given ms) (λ draft. AreWithin places.Trace ms → IsGoodConfig draft.config)
-unfolding draft_of_trace inside properties object_named
+unfolding draft_of_trace inside properties object_named rows_of
 trace_says k given ms h =
-    let t = needed_object k places.Trace places.TraceType (codes "type") ms (leads Property.trace_type) type_object h (needed_by Property.trace_type) in
+    let t = needed_object k places.Trace places.TraceType (codes "type") ms (refl, refl) type_object h in
     let type = type_says (inside places.TraceType t.0 k) given (environment ms) t.0 (levels_same (optional (codes "$log-level-aliases") t.0)) t.2.flaws in
-    (type.0, ap (option_and_then (draft_of_type given (environment ms))) t.1 ∙ type.1, λ good. type.2 (environment_allowed k ms h.flaws good) (object_within places.TraceType places.TraceType t.0 (type_object.own t.0) (optional_within Property.trace_type ms (object t.0) good (object_there (optional (codes "type") ms) t.0 t.1))))
+    (type.0, ap (option_and_then (draft_of_type given (environment ms))) t.1 ∙ type.1, λ good. type.2 (environment_allowed k ms h.flaws good) (object_within places.TraceType places.TraceType t.0 (type_object.own t.0) (optional_within places.Trace (codes "type") (At places.TraceType) (refl, refl) ms (object t.0) good (object_there (optional (codes "type") ms) t.0 t.1))))
 
 root_says : (k : Known) (given : Option (List ℕ)) (ms : Members) → RowsSound k places.Root ms → Says (draft_of_root given ms) (λ draft. AreWithin places.Root ms → IsGoodConfig draft.config)
-unfolding draft_of_root inside object_named
+unfolding draft_of_root inside object_named rows_of
 root_says k given ms h =
-    let t = needed_object k places.Root places.Trace (codes "trace") ms (leads Property.trace) (is_object OwnPlace.trace) h (needed_by Property.trace) in
+    let t = needed_object k places.Root places.Trace (codes "trace") ms (refl, refl) (is_object OwnPlace.trace) h in
     let trace = trace_says k given t.0 t.2 in
-    (trace.0, ap (option_and_then (draft_of_trace given)) t.1 ∙ trace.1, λ good. trace.2 (object_within places.Trace places.Trace t.0 ((is_own OwnPlace.trace).own t.0) (optional_within Property.trace ms (object t.0) good (object_there (optional (codes "trace") ms) t.0 t.1))))
+    (trace.0, ap (option_and_then (draft_of_trace given)) t.1 ∙ trace.1, λ good. trace.2 (object_within places.Trace places.Trace t.0 ((is_own OwnPlace.trace).own t.0) (optional_within places.Root (codes "trace") (At places.Trace) (refl, refl) ms (object t.0) good (object_there (optional (codes "trace") ms) t.0 t.1))))
 
 tree_says : (given : Option (List ℕ)) (d : Data) → configuration_flaws d ≡ [] → Says (draft_of given d) (λ draft. IsWithin (At places.Root) d → IsGoodConfig draft.config)
 unfolding inside

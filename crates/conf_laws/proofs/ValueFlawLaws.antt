@@ -39,19 +39,10 @@ pub test_judged : (P : Flaw → Type 0) (b : Bool) (f : Flaw) → (b ≡ false �
 test_judged P true f fails holds = holds refl
 test_judged P false f fails holds = fails refl
 
--- the other way round
-pub where_judged : (P : Flaw → Type 0) (b : Bool) (f : Flaw) → (b ≡ true → P f) → (b ≡ false → (flaw : Flaw) → ¬ P flaw) → IsJudged {A = ⊤} (cond b (Err f) (Ok tt)) P
-where_judged P true f told clear = told refl
-where_judged P false f told clear = clear refl
-
-pub only_judged : (P : Flaw → Type 0) (b : Bool) → (b ≡ false → P (here OutOfRange)) → (b ≡ true → (flaw : Flaw) → ¬ P flaw) → IsJudged (only_if b) P
-only_judged P true fails holds = holds refl
-only_judged P false fails holds = fails refl
-
 -- of a text
 text_judged : (P : Flaw → Type 0) (test : List ℕ → Bool) (d : Data) → (as_str d ≡ None → P (here WrongKind)) → ((s : List ℕ) → as_str d ≡ Some s → test s ≡ false → P (here OutOfRange))
     → ((s : List ℕ) → as_str d ≡ Some s → test s ≡ true → (flaw : Flaw) → ¬ P flaw) → IsJudged (text_of d >>= (λ s. only_if (test s))) P
-text_judged P test d none fails holds = kind_judged P (as_str d) _ none (λ s is. only_judged P (test s) (fails s is) (holds s is))
+text_judged P test d none fails holds = kind_judged P (as_str d) _ none (λ s is. test_judged P (test s) (here OutOfRange) (fails s is) (holds s is))
 
 -- the same flaws in other words
 pub same_judged : {A : Type 0} (P Q : Flaw → Type 0) (r : Result A Flaw) → ((flaw : Flaw) → P flaw → Q flaw) → ((flaw : Flaw) → Q flaw → P flaw) → IsJudged r P → IsJudged r Q
@@ -106,9 +97,9 @@ power_judged d =
     then_judged (IsNoPowerOfTwo d) (whole_of (pos 1) (pos 18446744073709551615) d) _ (λ flaw r. IsNoPowerOfTwo.no_number (whole_refused (pos 1) (pos 18446744073709551615) d flaw r))
     (λ z went.
     let read = whole_read (pos 1) (pos 18446744073709551615) d z went in
-    only_judged (IsNoPowerOfTwo d) (is_power_of_two z) (λ fails. IsNoPowerOfTwo.no_power read.whole.0 z read.whole.1 read.whole.2 (no_power z read.most fails)) (λ holds flaw wrong. elim wrong as (λ f w. ⊥) [
+    test_judged (IsNoPowerOfTwo d) (is_power_of_two z) (here OutOfRange) (λ fails. IsNoPowerOfTwo.no_power read.0.0 z read.0.1 read.0.2 (no_power z read.2 fails)) (λ holds flaw wrong. elim wrong as (λ f w. ⊥) [
       | IsNoPowerOfTwo.no_number w ↦ read_excluded (pos 1) (pos 18446744073709551615) d z _ went w
-      | IsNoPowerOfTwo.no_power m y is whole other ↦ other (subst IsPowerOfTwo (whole_same d z y read.whole (m, is, whole)) (a_power z holds))
+      | IsNoPowerOfTwo.no_power m y is whole other ↦ other (subst IsPowerOfTwo (whole_same d z y read.0 (m, is, whole)) (a_power z holds))
     ]))
 
 -- ---- kinds
@@ -141,13 +132,13 @@ size_judged d = same_judged (IsNoObject d) (IsNoSizeFeature d) (any_object d) (�
 items_judged : (d : Data) (ds : Items) → as_array d ≡ Some ds → IsJudged (only_if (nat_lt 0 (items_len ds))) (IsNoSomeList d)
 items_judged d no_items is = IsNoSomeList.has_none is
 items_judged d (item a ds) is =
-    only_judged (IsNoSomeList d) (nat_lt 0 (suc (items_len ds))) (λ fails. absurd (let few = ltb-false 0 (suc (items_len ds)) fails in omega (arith, few)))
+    test_judged (IsNoSomeList d) (nat_lt 0 (suc (items_len ds))) (here OutOfRange) (λ fails. absurd (let few = ltb-false 0 (suc (items_len ds)) fails in omega (arith, few)))
     (λ holds flaw wrong. elim wrong as (λ f w. ⊥) [ IsNoSomeList.no_list w ↦ some_list d (item a ds) _ is w | IsNoSomeList.has_none none ↦ absurd cc ])
 
 members_judged : (d : Data) (ms : Members) → as_object d ≡ Some ms → IsJudged (only_if (nat_lt 0 (members_len ms))) (IsNoSomeObject d)
 members_judged d no_members is = IsNoSomeObject.has_none is
 members_judged d (member k a ms) is =
-    only_judged (IsNoSomeObject d) (nat_lt 0 (suc (members_len ms))) (λ fails. absurd (let few = ltb-false 0 (suc (members_len ms)) fails in omega (arith, few)))
+    test_judged (IsNoSomeObject d) (nat_lt 0 (suc (members_len ms))) (here OutOfRange) (λ fails. absurd (let few = ltb-false 0 (suc (members_len ms)) fails in omega (arith, few)))
     (λ holds flaw wrong. elim wrong as (λ f w. ⊥) [ IsNoSomeObject.no_object w ↦ some_object d (member k a ms) _ is w | IsNoSomeObject.has_none none ↦ absurd cc ])
 
 entry_judged : (d : Data) (ms : Members) → as_object d ≡ Some ms → IsJudged {A = ⊤} (cond (nat_eq (members_len ms) 1) (Ok tt) (Err (here WrongKind))) (IsNoEntry d)
@@ -162,7 +153,7 @@ entry_judged d ms is =
 default_judged : (k : Known) (around : Around) → Agrees k around → (d : Data) → IsJudged (flag_of d >>= (λ b. only_if (not (b && k.has_default)))) (IsNoDefault around d)
 default_judged k around h d =
     kind_judged (IsNoDefault around d) (as_bool d) _ (λ none. IsNoDefault.no_flag (IsNoFlag.no_flag none)) (λ b is.
-    only_judged (IsNoDefault around d) (not (b && k.has_default))
+    test_judged (IsNoDefault around d) (not (b && k.has_default)) (here OutOfRange)
     (λ fails. let both = and_parts b k.has_default (let p : (b && k.has_default) ≡ true = grind (arith, nat_tests) in p) in IsNoDefault.a_second (is ∙ ap Some both.0) (h.second.0 both.1)) (λ holds flaw wrong. elim wrong as (λ f w. ⊥) [
       | IsNoDefault.no_flag w ↦ some_flag d b _ is w
       | IsNoDefault.a_second on behind ↦ absurd (let before : k.has_default ≡ true = h.second.1 behind in let flag : b ≡ true = some_same (as_bool d) b true is on in let f = rw (flag, before) at holds in cc)
@@ -253,11 +244,11 @@ level_judged levels high d = same_judged (IsNoWhole (pos 0) high d) (IsNoLevel l
 
 -- a range that was read is one, and its ends are in what a configuration can hold
 range_known : (d : Data) (low high : ℤ) → ReadSo d low high → IsRange d low high × (int_le lowest_end low ≡ true) × (int_le high highest_end ≡ true)
-range_known d low high (ReadSo.one_number z none e) = let read = whole_read lowest_end highest_end d z e in (IsRange.one_number z read.whole, read.least, read.most)
+range_known d low high (ReadSo.one_number z none e) = let read = whole_read lowest_end highest_end d z e in (IsRange.one_number z read.0, read.1, read.2)
 range_known d low high (ReadSo.two_numbers a b z w pair e f) =
     let first = whole_read lowest_end highest_end a z e in
     let second = whole_read lowest_end highest_end b w f in
-    (IsRange.two_numbers a b z w pair first.whole second.whole, first.least, second.most)
+    (IsRange.two_numbers a b z w pair first.0 second.0, first.1, second.2)
 
 pub number_there : (name : List ℕ) (ms : Members) (n : ℕ) → natural_in name ms ≡ Some n → HasNumber name ms n
 unfolding natural_in
@@ -437,7 +428,7 @@ module _ (k : Known) (around : Around) (h : (name : List ℕ) → IsTrue (is_tak
   unfolding free_of
   clash_judged name d plain =
       let long = is_dynamic d && is_taken k.taken (length_name name) in
-      where_judged (IsNoMemberName around name d) (is_taken k.taken name || long) (here NameClash) (λ clash. elim (or_cases (is_taken k.taken name) long clash) [
+      by_test (λ (b : Bool). IsJudged {A = ⊤} (cond b (Err (here NameClash)) (Ok tt)) (IsNoMemberName around name d)) (is_taken k.taken name || long) (λ clash. elim (or_cases (is_taken k.taken name) long clash) [
         | inl taken ↦ IsNoMemberName.name_clash ((h name).0 taken)
         | inr both ↦ let p = and_parts (is_dynamic d) (is_taken k.taken (length_name name)) both in IsNoMemberName.length_clash (dynamic_told d p.0) ((h (length_name name)).0 p.1)
       ])
@@ -454,7 +445,7 @@ module _ (k : Known) (around : Around) (h : (name : List ℕ) → IsTrue (is_tak
       then_judged (IsNoMemberName around name d) (plain_name_of name) _ (λ flaw r. IsNoMemberName.no_name (plain_name_refused name flaw r)) (λ x went. clash_judged name d (subst (λ r. IsJudged r (IsNoPlainName name)) went (plain_judged name)))
   key_judged _ keys.PlainName name d = plain_judged name
   key_judged place keys.Label name d =
-      only_judged (IsNoLabel name) (is_printable name) (λ fails. let control = control_there name fails in IsNoLabel.has_control control.0 control.1 control.2)
+      test_judged (IsNoLabel name) (is_printable name) (here OutOfRange) (λ fails. let control = control_there name fails in IsNoLabel.has_control control.0 control.1 control.2)
       (λ holds flaw wrong. elim wrong as (λ f w. ⊥) [ IsNoLabel.has_control c among control ↦ shown_character name c holds among control ])
   key_judged place keys.Index name d = λ flaw wrong. wrong
 

@@ -5,7 +5,7 @@ pub use Rattle.std.proofs.lemmas.Bool.{leb-true, lt-leb, ltb-false, ltb-true, ne
 pub use Rattle.std.proofs.{lemmas.Bool.Decides.nat_tests, lemmas.Cmp.{nat_list_cmp_total, tied_itself}, lemmas.Float.T_from_true}
 pub use Rattle.std.proofs.lemmas.List.{append-nil, length-map, map-append}
 pub use Rattle.std.proofs.lemmas.List.Elements.{All-append, All-cons, All-contains, All-from_recursion, All-map, All-nil, All-push, All-weaker}
-pub use Rattle.std.proofs.{lemmas.List.Folds.{list_all_at, list_any-append, list_any_at}, lemmas.Map.Text.is_eq-slice_cmp, lemmas.Nat.mul-le}
+pub use Rattle.std.proofs.{lemmas.List.Folds.{list_all_at, list_any_at}, lemmas.Map.Text.is_eq-slice_cmp, lemmas.Nat.mul-le}
 pub use Rattle.std.proofs.{lemmas.Option.{cond_some, same_Some}, lemmas.Slice.Eq.bytes_eq-Decides}
 pub use Rattle.std.specs.{Cmp.Lexicographic.slice_cmp, Int.Signed.le_z_yes, List.{All, AllByRecursion, list_any}, Option.option_map_or, Ordering.match_ordering, Prelude.⊤}
 pub use Rattle.std.specs.Str.{bytes_eq}
@@ -15,8 +15,8 @@ pub use Rattle.conf_tree.specs.{Reading.{at, flag_of, given, needed, optional, t
 pub use Rattle.conf_tree.specs.declared.fault_kind.FaultKind.{FaultKind}
 pub use Rattle.conf_tree.specs.declared.fault_kind.FaultKind.TheVariants.{BadName, Limit, Missing, NameClash, NoSuchAlias, OutOfRange, ReservedName, Unknown, WrongKind}
 unfoldable pub use Rattle.conf_tree.specs.Reading.{whole_of}
-pub use Rattle.conf_values.proofs.LeafFlawLaws.{control_there, found_there, holds_of, lacks_refused, listed as word_listed, name_refused, none_refused, plain_name_refused}
-pub use Rattle.conf_values.proofs.LeafFlawLaws.{refused_here_or_next, refused_there, refused_where, same_flaw, wanted_found, whole_refused}
+pub use Rattle.conf_values.proofs.LeafFlawLaws.{control_there, found_there, lacks_refused, listed as word_listed, name_refused, none_refused, plain_name_refused}
+pub use Rattle.conf_values.proofs.LeafFlawLaws.{refused_here_or_next, refused_where, wanted_found, whole_refused}
 pub use Rattle.conf_values.proofs.Steps.{both_read, is_passed, ok_same, read_there}
 pub use Rattle.conf_values.specs.LeafFlaws.{IsControl, IsNoConfigText, IsNoFlag, IsNoList, IsNoName, IsNoObject, IsNoPlainName, IsNoText, IsNoUuid, IsNoWhole, IsNoWordOf}
 pub use Rattle.conf_values.specs.{Parts.proved, Scalar.{integer_or_none, is_printable, natural_or_none}}
@@ -26,7 +26,7 @@ pub use Rattle.serde_json.specs.Data.{Data, Items, Members, Num, array, boolean,
 pub use Rattle.serde_json.specs.{Events.{items_len, members_len}, Find.{as_array, as_bool, as_integer, as_number, as_object, as_str, get_item, get_member}}
 unfoldable pub use Rattle.conf_table.specs.{Classes.{admits_class, class_of, class_words, is_class}, Table.{content_under, entries_of, presence_under, rows_of}}
 unfoldable pub use Rattle.conf_table.specs.Words.{words_of}
-pub use Rattle.conf_table.specs.{Classes.{ClassWord, class_in, class_named, class_said, is_dynamic_array, is_unsigned_integer as is_unsigned_class}, Table.{Told, row_in}}
+pub use Rattle.conf_table.specs.{Classes.{ClassWord, class_in, class_named, class_said, is_dynamic_array, is_static_array, is_unsigned_integer}, Table.{Told, row_in}}
 pub use Rattle.conf_table.specs.{declared.place.Place.Place, declared.row.Content.Content, declared.row.Content.TheVariants.{At, Level, OneFlag, Text, Whole, WholeOrText}}
 pub use Rattle.conf_table.specs.{declared.row.Entries.Entries, declared.row.Keys.Keys, declared.row.Presence.Presence, declared.row.Presence.TheVariants.Needed}
 unfoldable pub use Rattle.conf_judge.specs.Flaws.{all_there, class_rule, is_left_out, orders_there, other_class, resolved_content}
@@ -42,7 +42,7 @@ pub use Rattle.conf_judge.specs.Leaves.{is_power_of_two, only_if}
 pub use Rattle.conf_judge.specs.Limits.{at_least_one, at_most, bytes_fit, configuration_limits, content_limits, count_of, divides, elements, elements_in_array, inner_limits}
 pub use Rattle.conf_judge.specs.Limits.{is_label, item_limits, member_limits, ranges_in as counted_ranges, ranges_of, times, within_limit}
 pub use Rattle.conf_judge.specs.{Names.{class_of_member, is_taken, take, take_all, take_each, with_names}, Numbers.{all_numbers, end_of, single_of}}
-pub use Rattle.conf_judge.specs.Shapes.{element_has_bits, has_bits, is_byte, is_eight, is_number, is_static_array, is_unsigned_integer}
+pub use Rattle.conf_judge.specs.Shapes.{element_has_bits, has_bits, is_byte, is_eight, is_number}
 unfoldable pub use Rattle.conf_draft.specs.{Alignments.alignment, Clocks.{clock_type, clock_types}, Enumerations.enumeration, Environments.environment}
 unfoldable pub use Rattle.conf_draft.specs.{Events.{event_type, event_types}, Features.{byte_of, context, event_header, feature, header, identifier, mapped, size, timestamp}}
 unfoldable pub use Rattle.conf_draft.specs.{FieldTypes.{length_of, of_class}, Integers.{align_of as integer_align, base_of, integer, made as integer_made, size_of}}
