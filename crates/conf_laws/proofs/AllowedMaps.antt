@@ -2,11 +2,11 @@
 -- Lists that have an item for each entry of a map, under its name, are in byte order, and no longer than the map: environments and clock
 -- types that have no flaw and pass no limit are ones that the rules allow.
 use Rattle.std.proofs.Common.{◌≡◌, ℕ, ◌||◌, ◌&&◌, true, List, length, Ok, arith, ◌==◌, ◌%◌, Bool, Some, None, nat_lt, sym, ap, ◌≢◌, ℤ, pos, suc, ◌<◌, ◌≤◌, [], ◌∷◌, ◌++◌, Less, Greater, nat_cmp, refl, subst, ◌∙◌, length-append, All, Option, map, cond, lt-ltb, nat_le, int_le, codes, option_and_then, unwrap_or, negsuc}
-use Rattle.conf_laws.proofs.Numbers.{whole_there, lowest_end, highest_end, ReadSo, read_so, some_size, natural_is_in, IsAlignment, alignment_or, needed_natural}
+use Rattle.conf_laws.proofs.Numbers.{whole_there, lowest_end, highest_end, ReadSo, read_so, some_size, natural_is_in, alignment_or, needed_natural}
 use Rattle.conf_laws.proofs.Properties.{IsWithin, AreWithin, object_within, entry_within, optional_within, all_within, fitting_parts, flaws_in, names_of, sorted_names, names_counted, MapPlace, is_map, OwnPlace, is_own, is_object}
 use Rattle.conf_laws.proofs.Readings.{Says, proved_says, under_no_test, all_joined, same_natural, word_there, optional_found, by_found, by_test}
-use Rattle.conf_laws.proofs.Sound.{HasRow, RowsSound, ContentSound, object_sound, content_sound, first_item, first_entry, held_at, needed_sound, optional_sound, rows_sound}
-use Rattle.conf_laws.proofs.Words.{rows_of, Needed, entries_of, Place, At, WholeOrText, Whole, Text, Content, member_flaws, item_flaws, inside, behind, itself_of, form_of, Known, with_taken, key_fits, ranges_fit, key_of, key_by, names_beside, with_names, end_of, range_of, is_inside, inside_of, natural_in, numbers_of, numbers_in, all_numbers, item_content, leaf_of, whole_or_text, fits, here, AllAbove, IsInOrder, whole_of, OutOfRange, both_read, is_passed, name_of, is_reserved, plain_name_of, is_printable, Members, Data, number, array, Items, no_items, item, no_members, member, object, items_len, as_integer, optional, as_natural, string, members_len, nat_tests, and_parts, or_parts, leb-true, nat_list_cmp_total, tied_itself, T_from_true, All-from_recursion, All-weaker, slice_cmp, le_z_yes, list_any, option_map_or, AllByRecursion, bytes_eq, length-map, whole, low, high, ranges_in, labels_in, enumeration, integer, size_of, object_at, properties, LabelsInOrder, lowest, highest, IsRangeOf, IsEnumeration, is_name as is_identifier, unused_keywords, used_keywords, IsConfigName, IsPlainName, IsConfigText, IntType, Mapping, clock_type, clocks_in, clock_types, entry_value, entries_in, environment, natural, word, InByteOrder, IsEnvironmentValue, IsClockType, ClockType, EnvironmentEntry, integer_made as made, integer_align as align_of, default_align, counted_ranges}
+use Rattle.conf_laws.proofs.Sound.{object_read, HasRow, RowsSound, ContentSound, object_sound, content_sound, first_item, first_entry, held_at, needed_sound, optional_sound, rows_sound}
+use Rattle.conf_laws.proofs.Words.{is_alignment, rows_of, Needed, entries_of, Place, At, WholeOrText, Whole, Text, Content, member_flaws, item_flaws, inside, behind, itself_of, form_of, Known, with_taken, key_fits, ranges_fit, key_of, key_by, names_beside, with_names, end_of, range_of, is_inside, inside_of, natural_in, numbers_of, numbers_in, all_numbers, item_content, leaf_of, whole_or_text, fits, here, AllAbove, IsInOrder, whole_of, OutOfRange, both_read, is_passed, name_of, is_reserved, plain_name_of, is_printable, Members, Data, number, array, Items, no_items, item, no_members, member, object, items_len, as_integer, optional, as_natural, string, members_len, nat_tests, and_parts, or_parts, leb-true, nat_list_cmp_total, tied_itself, T_from_true, All-from_recursion, All-weaker, slice_cmp, le_z_yes, list_any, option_map_or, AllByRecursion, bytes_eq, length-map, whole, low, high, ranges_in, labels_in, enumeration, integer, size_of, object_at, properties, LabelsInOrder, lowest, highest, IsRangeOf, IsEnumeration, is_name as is_identifier, unused_keywords, used_keywords, IsConfigName, IsPlainName, IsConfigText, IntType, Mapping, clock_type, clocks_in, clock_types, entry_value, entries_in, environment, natural, word, InByteOrder, IsEnvironmentValue, IsClockType, ClockType, EnvironmentEntry, integer_made as made, integer_align as align_of, default_align, counted_ranges}
 use Rattle.conf_laws.proofs.Words.places
 
 pub config_name : (name : List ℕ) → name_of name ≡ Ok tt → IsConfigName name
@@ -34,18 +34,16 @@ pub record IsMade (size align : ℕ) (signed : Bool) (t : IntType) : Type 0 wher
   pub sign_is : t.signed ≡ signed
   pub no_clock : t.clock ≡ None
 
-by_default : (size : ℕ) → IsAlignment (default_align size)
-by_default size = by_test (λ (b : Bool). IsAlignment (cond b 8 1)) (size % 8 == 0) (λ is. record { positive = refl; power = refl }) (λ is. record { positive = refl; power = refl })
-
 pub integer_says : (k : Known) (place : Place) (signed : Bool) (ms : Members) → HasRow place (codes "size") Needed (Whole (pos 1) (pos 64)) → RowsSound k place ms → Says (integer signed ms) (IsMade (size_of ms) (align_of ms) signed)
 unfolding integer made size_of align_of
 integer_says k place signed ms size h =
     let n = needed_natural k place (codes "size") 1 64 ms size h (omega arith) in
     let is = sym (ap (λ o. unwrap_or o 0) n.1) in
-    let align = alignment_or (codes "alignment") (default_align (size_of ms)) ms (by_default (size_of ms)) in
+    let default : is_alignment (default_align (size_of ms)) ≡ true = by_test (λ (b : Bool). is_alignment (cond b 8 1) ≡ true) (size_of ms % 8 == 0) (λ is. refl) (λ is. refl) in
+    let align = and_parts (nat_lt 0 (align_of ms)) (4096 % align_of ms == 0) (alignment_or (codes "alignment") (default_align (size_of ms)) ms default) in
     let P : IntType → Type 0 = IsMade (size_of ms) (align_of ms) signed in
     proved_says P (nat_lt 0 (size_of ms)) _ (subst (λ x. nat_lt 0 x ≡ true) is (lt-ltb 0 n.0 (let a = leb-true 1 n.0 n.2 in omega arith)))
-    (λ _. proved_says P (nat_le (size_of ms) 64) _ (subst (λ x. nat_le x 64 ≡ true) is n.3) (λ _. proved_says P (nat_lt 0 (align_of ms)) _ align.positive (λ _. proved_says P (4096 % align_of ms == 0) _ align.power (λ _. (_, refl, record { size_is = refl; align_is = refl; sign_is = refl; no_clock = refl })))))
+    (λ _. proved_says P (nat_le (size_of ms) 64) _ (subst (λ x. nat_le x 64 ≡ true) is n.3) (λ _. proved_says P (nat_lt 0 (align_of ms)) _ align.0 (λ _. proved_says P (4096 % align_of ms == 0) _ align.1 (λ _. (_, refl, record { size_is = refl; align_is = refl; sign_is = refl; no_clock = refl })))))
 
 -- ---- one range
 
@@ -161,11 +159,6 @@ mappings_good k labels h within =
     let few = leb-true (counted_ranges labels) 1024 (fitting_parts places.Mappings (object labels) within.fitting).2 in
     record { each = All-from_recursion (IsGoodMapping k) (labels_in labels) (labels_good k labels flaws all); in_order = labels_in_order labels all.in_order; some = some_range k labels h.itself flaws; few = omega (arith, few, labels_few labels) }
 
-some_object : (k : Known) (d : Data) → ContentSound k (At places.Mappings) d → (labels : Members) × (d ≡ object labels)
-unfolding itself_of form_of
-some_object k (object labels) h = (labels, refl)
-some_object k _ h = absurd (let e = h.itself in cc)
-
 -- ---- the numbers of the integer
 
 numbers_said : (signed : Bool) (o : Option ℕ) (size : ℕ) → unwrap_or o 0 ≡ size → 0 < size → option_map_or (numbers_of signed) o all_numbers ≡ numbers_of signed size
@@ -204,11 +197,11 @@ enumeration_with k signed ms mappings t made known h = record {
 
 pub enumeration_says : (k : Known) (place : Place) (signed : Bool) (ms : Members) → HasRow place (codes "size") Needed (Whole (pos 1) (pos 64)) → HasRow place (codes "mappings") Needed (At places.Mappings) → k.numbers ≡ numbers_in signed ms → RowsSound k place ms
     → Says (enumeration signed ms) (λ t. AreWithin place ms → IsEnumeration t)
-unfolding enumeration properties object_at
+unfolding enumeration properties object_at itself_of form_of
 enumeration_says k place signed ms size mappings known h =
     let int = integer_says k place signed ms size h in
     let (d, there, sound) = needed_sound k place (codes "mappings") (At places.Mappings) ms mappings h in
-    let labels = some_object k d sound.value in
+    let labels = object_read d _ sound.value.itself in
     let found = optional_found (codes "mappings") ms (object labels.0) (there ∙ ap Some labels.1) refl in
     (record { int = int.0; mappings = labels_in labels.0 }, rw (int.1, found) refl, λ within. enumeration_with k signed ms (labels_in labels.0) int.0 int.2 known (mappings_good k labels.0 (subst (λ x. ContentSound k (At places.Mappings) x) labels.1 sound.value) (optional_within place (codes "mappings") (At places.Mappings) mappings ms (object labels.0) within found)))
 
@@ -281,10 +274,6 @@ frequency_positive k ms f =
     (λ e. omega arith) (λ d is. by_found (λ (o : Option ℕ). 0 < unwrap_or o 1000000000) (as_natural d) (λ e. omega arith) (λ n e.
     let b = (natural_is_in 1 18446744073709551615 d n (omega arith) (optional_sound k places.ClockType (codes "frequency") (Whole (pos 1) (pos 18446744073709551615)) ms d (refl, refl) f is).value.itself e).0 in omega (arith, b)))
 
-clock_allowed : (k : Known) (name : List ℕ) (ms : Members) → IsPlainName name → member_flaws k places.ClockType ms ≡ [] → AreWithin places.ClockType ms → IsClockType (clock_type name ms)
-unfolding clock_type
-clock_allowed k name ms plain f h = record { name = plain; description = λ text is. description_allowed k ms text f h is; frequency = frequency_positive k ms f }
-
 -- ---- all of them
 
 abbrev clock_name : ClockType → List ℕ
@@ -297,7 +286,8 @@ clocks_under k (member name d ms) f h =
     let sound = first_entry k places.ClockTypes name (At places.ClockType) d ms (is_map MapPlace.clock_types) f in
     let within = entry_within MapPlace.clock_types name d ms h in
     let (inner, same, rows) = held_at k places.ClockType d (is_object OwnPlace.clock_type) sound.0.value in
-    let one = clock_allowed k name inner (plain_name name sound.0.named) rows.flaws (object_within places.ClockType places.ClockType inner ((is_own OwnPlace.clock_type).own inner) (subst (λ x. IsWithin (At places.ClockType) x) same within.0)) in
+    let good = object_within places.ClockType places.ClockType inner ((is_own OwnPlace.clock_type).own inner) (subst (λ x. IsWithin (At places.ClockType) x) same within.0) in
+    let one : IsClockType (clock_type name inner) = record { name = plain_name name sound.0.named; description = λ text is. description_allowed k inner text rows.flaws good is; frequency = frequency_positive k inner rows.flaws } in
     subst (λ x. AreUnder clock_name IsClockType (name ∷ names_of ms) (clocks_in (member name x ms))) (sym same)
     (one_under clock_name IsClockType name (names_of ms) (clock_type name inner) (clocks_in ms) refl one (clocks_under k ms sound.1 within.2))
 

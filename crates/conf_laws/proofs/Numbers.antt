@@ -103,18 +103,12 @@ some_size signed size some most =
     let b : nat_lt 64 size ≡ false = grind (arith, nat_tests) in
     rw (a, b) (refl, refl)
 
--- a power of two up to 4,096
-pub record IsAlignment (n : ℕ) : Type 0 where
-  pub positive : nat_lt 0 n ≡ true
-  pub power : (4096 % n == 0) ≡ true
-
--- a property that is one, or another where it counts as left out
-pub alignment_or : (name : List ℕ) (otherwise : ℕ) (ms : Members) → IsAlignment otherwise → IsAlignment (unwrap_or (alignment name ms) otherwise)
+-- a property that is a power of two up to 4,096, or another where it counts as left out
+pub alignment_or : (name : List ℕ) (otherwise : ℕ) (ms : Members) → is_alignment otherwise ≡ true → is_alignment (unwrap_or (alignment name ms) otherwise) ≡ true
 unfolding alignment
 alignment_or name otherwise ms default =
-    by_found (λ (o : Option ℕ). IsAlignment (unwrap_or (option_and_then alignment_of o) otherwise)) (natural name ms) (λ none. default) (λ n there.
-    by_test (λ (b : Bool). IsAlignment (unwrap_or (cond b (Some n) None) otherwise)) (is_alignment n)
-    (λ is. let parts = and_parts (nat_lt 0 n) (4096 % n == 0) is in record { positive = parts.0; power = parts.1 }) (λ is. default))
+    by_found (λ (o : Option ℕ). is_alignment (unwrap_or (option_and_then alignment_of o) otherwise) ≡ true) (natural name ms) (λ none. default)
+    (λ n there. by_test (λ (b : Bool). is_alignment (unwrap_or (cond b (Some n) None) otherwise) ≡ true) (is_alignment n) (λ is. is) (λ is. default))
 
 module _ (ms : Members) (n : ℕ) (power : is_power_of_two (pos n) ≡ true) (fits : divides 4096 (Some n) ≡ true) where
   kept : (name : List ℕ) → natural name ms ≡ Some n → alignment name ms ≡ Some n

@@ -1,7 +1,7 @@
 -- What small steps and readings say that went well; what is computed from the first property of a name; and what holds of a field type
 -- where it holds of its element.
 use Rattle.std.proofs.Common.{◌≡◌, ℕ, Bool, true, false, List, Option, Some, None, is_some, refl, ap, [], ◌∷◌, ◌++◌, cond, Ok, Err, Ordering, Less, Equal, Greater, nat_cmp, is_eq, sym, subst, ◌∙◌, inl, inr, option_map, option_and_then, codes}
-use Rattle.conf_laws.proofs.Words.{is_null, HasMember, Place, is_unsigned_integer, is_static_array, is_dynamic_array, times, elements, elements_in_array, natural_in, has_bits, element_has_bits, Flaw, given, optional, proved, as_natural, Data, string, object, Members, null, no_members, member, get_member, as_object, as_str, false≢true, nat_list_cmp_total, tied_itself, is_eq-slice_cmp, same_Some, bytes_eq-Decides, slice_cmp, AllByRecursion, option_map_or, match_ordering, bytes_eq, field_type, element, natural}
+use Rattle.conf_laws.proofs.Words.{is_byte, is_null, HasMember, Place, is_unsigned_integer, is_static_array, is_dynamic_array, times, elements, elements_in_array, natural_in, has_bits, element_has_bits, Flaw, given, optional, proved, as_natural, Data, string, object, Members, null, no_members, member, get_member, as_object, as_str, false≢true, nat_list_cmp_total, tied_itself, is_eq-slice_cmp, same_Some, bytes_eq-Decides, slice_cmp, AllByRecursion, option_map_or, match_ordering, bytes_eq, field_type, element, natural}
 use Rattle.conf_laws.proofs.Words.places
 
 pub some_none : {A P : Type 0} (o : Option A) (x : A) → o ≡ Some x → o ≡ None → P
@@ -42,6 +42,10 @@ all_joined P (x ∷ xs) ys h k = (h.0, all_joined P xs ys h.1 k)
 pub object_there : (o : Option Data) (ms : Members) → option_and_then as_object o ≡ Some ms → o ≡ Some (object ms)
 object_there (Some (object ns)) ms e = ap (λ x. Some (object x)) (same_Some ns ms e)
 object_there _ ms e = absurd cc
+
+pub byte_object : (o : Option Data) → is_byte o ≡ true → (ms : Members) × (o ≡ Some (object ms))
+byte_object (Some (object ms)) e = (ms, refl)
+byte_object _ e = absurd cc
 
 pub word_there : (o : Option Data) (w : List ℕ) → option_and_then as_str o ≡ Some w → o ≡ Some (string w)
 word_there (Some (string s)) w e = ap (λ x. Some (string x)) (same_Some s w e)

@@ -2,7 +2,7 @@
 -- property that is there is what its row asks for.
 use Rattle.std.proofs.Common.{codes, unwrap_or, arith, ◌≡◌, ◌++◌, ℕ, Bool, true, false, cond, List, [], ◌∷◌, map, Option, Some, None, Result, Ok, Err, refl, sym, subst, ◌∙◌, suc, option_map, option_and_then, ap}
 use Rattle.conf_laws.proofs.Readings.{at_found, optional_found, by_found, by_test}
-use Rattle.conf_laws.proofs.Words.{entries_of, class_words, class_in, admits_class, presence_under, Told, rows_of, row_in, content_under, Place, At, Content, Needed, Presence, class_named, class_of, class_said, told_by, class_rule, all_there, resolved_content, is_left_out, left_out, is_needed, is_null, property_flaws, inner_flaws, member_flaws, content_flaws, item_flaws, rows_there, row_there, orders_there, admitted, other_class, itself_of, any_object, Known, inside, behind, with_taken, key_of, with_names, place_of_properties, item_content, is_position, own_place, shape_of, Flaw, key, within, index, here, optional, given, ◌>>=◌, at, needed, text_of, wanted_found, found_there, both_read, read_there, is_passed, Data, null, object, Members, member, Items, item, get_member, as_object, as_str, nat_tests, bytes_eq-Decides, bytes_eq, object_at as object_in, ⊤}
+use Rattle.conf_laws.proofs.Words.{wanted, entries_of, class_words, class_in, admits_class, presence_under, Told, rows_of, row_in, content_under, Place, At, Content, Needed, Presence, class_named, class_of, class_said, told_by, class_rule, all_there, resolved_content, is_left_out, left_out, is_needed, is_null, property_flaws, inner_flaws, member_flaws, content_flaws, item_flaws, rows_there, row_there, orders_there, admitted, other_class, itself_of, any_object, Known, inside, behind, with_taken, key_of, with_names, place_of_properties, item_content, is_position, own_place, shape_of, Flaw, key, within, index, here, optional, given, ◌>>=◌, at, needed, text_of, wanted_found, found_there, both_read, read_there, is_passed, Data, null, object, Members, member, Items, item, get_member, as_object, as_str, nat_tests, bytes_eq-Decides, bytes_eq, object_at as object_in, ⊤}
 use Rattle.conf_laws.proofs.Words.places
 use Rattle.conf_laws.proofs.Words.contents
 
@@ -98,28 +98,25 @@ optional_there name ms d e = go (get_member name ms) refl e
     go (Some null) f g = absurd cc
     go (Some v) f g = (f ∙ g, subst (λ x. is_null x ≡ false) (let same : v ≡ d = cc in same) refl)
 
-not_left_out : (o : Option Presence) (d : Data) → is_null d ≡ false → left_out o d ≡ false
-not_left_out None d e = refl
-not_left_out (Some p) d e = grind (arith, nat_tests)
-
 -- a property that is there and is not null is sound at what it is
 pub optional_sound : (k : Known) (place : Place) (name : List ℕ) {presence : Presence} (content : Content) (ms : Members) (d : Data) → HasRow place name presence content
     → member_flaws k place ms ≡ [] → optional name ms ≡ Some d → PropertySound k place name content d
 unfolding is_left_out
 optional_sound k place name content ms d row e found =
-    let o = optional_there name ms d found in property_sound k place name content ms d row e o.0 (not_left_out (presence_under place name) d o.1)
+    let (there, some) = optional_there name ms d found in
+    property_sound k place name content ms d row e there (by_found (λ (o : Option Presence). left_out o d ≡ false) (presence_under place name) (λ is. refl) (λ p is. grind (arith, nat_tests)))
 
 -- ---- an object at a property
 
-pub is_object : (d : Data) → any_object d ≡ Ok tt → (ms : Members) × (d ≡ object ms)
-unfolding any_object
-is_object (object ms) e = (ms, refl)
-is_object _ e = absurd cc
+pub object_read : (d : Data) (step : Members → Result ⊤ Flaw) → (wanted (as_object d) >>= step) ≡ Ok tt → (ms : Members) × (d ≡ object ms)
+object_read (object ms) step e = (ms, refl)
+object_read _ step e = absurd cc
 
 -- a value at a place of objects is an object that is sound
 pub object_at : (k : Known) (place : Place) (d : Data) → ContentSound k (At place) d → itself_of k (At place) d ≡ any_object d → (ms : Members) × (d ≡ object ms) × ObjectSound k place ms
+unfolding any_object
 object_at k place d h form =
-    let (ms, is) = is_object d (sym form ∙ h.itself) in
+    let (ms, is) = object_read d _ (sym form ∙ h.itself) in
     (ms, is, object_sound k place ms (subst (λ x. inner_flaws k (At place) x ≡ []) is h.inner))
 
 -- the properties of an object whose rows are those of this place

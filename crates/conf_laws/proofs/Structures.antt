@@ -4,11 +4,11 @@ use Rattle.std.proofs.Common.{◌≡◌, ◌%◌, ◌==◌, ◌&&◌, ℕ, nat_e
 use Rattle.conf_laws.proofs.Agreement.{taken_put}
 use Rattle.conf_laws.proofs.AllowedMaps.{plain_name}
 use Rattle.conf_laws.proofs.FieldTypes.{bits_allowed, nest_allowed, type_says}
-use Rattle.conf_laws.proofs.Numbers.{IsAlignment, alignment_or}
+use Rattle.conf_laws.proofs.Numbers.{alignment_or}
 use Rattle.conf_laws.proofs.Properties.{IsWithin, AreWithin, AreItemsWithin, object_within, list_within, property_within, optional_within, entry_within, item_within, fitting_parts, MapPlace, is_map, OwnPlace, is_own}
 use Rattle.conf_laws.proofs.Readings.{Says, proved_says, element_is, all_joined, under_no_test, optional_found, some_there, by_found, by_test}
 use Rattle.conf_laws.proofs.Sound.{HasRow, RowsSound, ContentSound, ObjectSound, object_sound, needed_sound, type_sound, class_place, object_at, content_sound, first_item, rows_sound, first_entry, optional_sound}
-use Rattle.conf_laws.proofs.Words.{rows_of, Presence, admits_class, is_dynamic_array, Place, At, entries_of, at_most, itself_of, form_of, Known, inside, is_position, inner_flaws, item_flaws, member_flaws, nothing, with_taken, take, is_taken, key_of, key_by, free_of, is_dynamic, class_of, class_of_member, elements, fits, arrays_fit, is_outermost, shape_of, with_names, names_beside, own_place, place_of_properties, item_content, Members, Data, object, get_member, optional, here, WrongKind, is_passed, members_len, items_len, both_read, plain_name_of, Items, no_items, item, no_members, member, array, as_array, as_object, eqb-true, false≢true, or_parts, All-push, All-nil, All-from_recursion, map-append, bytes_eq-Decides, IsDistinct, option_map_or, AllByRecursion, list_any, bytes_eq, field_type, element, object_at as object_named, list as list_in, member_type, member_said as member_of, behind_done, members_behind, made, align_for, listed, align_of, structure_of, structure, extra_members, names_in, own_names, IsPlainName, IsConfigMember, AreConfigMembers, IsConfigStruct, StructType, length_name, shown_members, Auto, AtMember, Plain, Dyn, MemberType}
+use Rattle.conf_laws.proofs.Words.{and_parts, is_alignment, rows_of, Presence, admits_class, is_dynamic_array, Place, At, entries_of, at_most, itself_of, form_of, Known, inside, is_position, inner_flaws, item_flaws, member_flaws, nothing, with_taken, take, is_taken, key_of, key_by, free_of, is_dynamic, class_of, class_of_member, elements, fits, arrays_fit, is_outermost, shape_of, with_names, names_beside, own_place, place_of_properties, item_content, Members, Data, object, get_member, optional, here, WrongKind, is_passed, members_len, items_len, both_read, plain_name_of, Items, no_items, item, no_members, member, array, as_array, as_object, eqb-true, false≢true, or_parts, All-push, All-nil, All-from_recursion, map-append, bytes_eq-Decides, IsDistinct, option_map_or, AllByRecursion, list_any, bytes_eq, field_type, element, object_at as object_named, list as list_in, member_type, member_said as member_of, behind_done, members_behind, made, align_for, listed, align_of, structure_of, structure, extra_members, names_in, own_names, IsPlainName, IsConfigMember, AreConfigMembers, IsConfigStruct, StructType, length_name, shown_members, Auto, AtMember, Plain, Dyn, MemberType}
 use Rattle.conf_laws.proofs.Words.places
 
 -- ---- what a member takes
@@ -267,15 +267,14 @@ module _ (k : Known) (around : Place) {place : Place} (name : List ℕ) {presenc
 
 -- ---- structures
 
-no_alignment : IsAlignment 1
-no_alignment = record { positive = refl; power = refl }
-
-made_says : (members : List (List ℕ × MemberType)) (align : ℕ) → IsAlignment align → Says (made members align) (λ s. (s.members ≡ members) × (s.min_align ≡ align))
+made_says : (members : List (List ℕ × MemberType)) (align : ℕ) → is_alignment align ≡ true → Says (made members align) (λ s. (s.members ≡ members) × (s.min_align ≡ align))
 unfolding made
-made_says members align a = proved_says (λ s. (s.members ≡ members) × (s.min_align ≡ align)) (nat_lt 0 align) _ a.positive (λ _. proved_says (λ s. (s.members ≡ members) × (s.min_align ≡ align)) (4096 % align == 0) _ a.power (λ _. (_, refl, (refl, refl))))
+made_says members align a =
+    let p = and_parts (nat_lt 0 align) (4096 % align == 0) a in
+    proved_says (λ s. (s.members ≡ members) × (s.min_align ≡ align)) (nat_lt 0 align) _ p.0 (λ _. proved_says (λ s. (s.members ≡ members) × (s.min_align ≡ align)) (4096 % align == 0) _ p.1 (λ _. (_, refl, (refl, refl))))
 
-aligned : (members : List (List ℕ × MemberType)) (align : ℕ) → IsAlignment align → IsAlignment (align_for members align)
-aligned [] align a = no_alignment
+aligned : (members : List (List ℕ × MemberType)) (align : ℕ) → is_alignment align ≡ true → is_alignment (align_for members align) ≡ true
+aligned [] align a = refl
 aligned (m ∷ members) align a = a
 
 -- a structure without members aligns nothing
@@ -286,7 +285,7 @@ object_says : (k : Known) (ms : Members) → RowsSound k places.Structure ms →
 unfolding structure_of align_of itself_of form_of item_content entries_of names_beside rows_of
 object_says k ms h =
     let members = listed_says k places.Structure (codes "members") (refl, refl) ms (λ d. refl) refl (λ n. refl) h.flaws [] tt in
-    let s = made_says members.0 (align_for members.0 (align_of ms)) (aligned members.0 (align_of ms) (alignment_or (codes "minimum-alignment") 1 ms no_alignment)) in
+    let s = made_says members.0 (align_for members.0 (align_of ms)) (aligned members.0 (align_of ms) (alignment_or (codes "minimum-alignment") 1 ms refl)) in
     (s.0, ap (option_and_then (λ all. made all (align_for all (align_of ms)))) members.1 ∙ s.1, λ good. struct_of members.0 (align_of ms) s.0 s.2 (members.2.1 good))
 
 structure_class : (class : Place) → admits_class places.StructureType class ≡ true → class ≡ places.Structure
@@ -307,7 +306,7 @@ pub structure_says : (k : Known) (place : Place) (name : List ℕ) {presence : P
 unfolding structure object_named
 structure_says k place name row ms f =
     by_found (λ (o : Option Data). Says (option_map_or structure_of (option_and_then as_object o) (made [] 1)) (λ s. AreWithin place ms → IsConfigStruct s)) (optional name ms)
-    (λ is. let s = made_says [] 1 no_alignment in (s.0, s.1, λ good. struct_of [] 1 s.0 s.2 no_members_allowed))
+    (λ is. let s = made_says [] 1 refl in (s.0, s.1, λ good. struct_of [] 1 s.0 s.2 no_members_allowed))
     (λ d is. let s = type_structure k d (optional_sound k place name (At places.StructureType) ms d row f is).value in (s.0, s.1, λ good. s.2 (optional_within place name (At places.StructureType) row ms d good is)))
 
 pub record AreExtras (s : StructType) : Type 0 where
@@ -319,7 +318,7 @@ pub extras_says : (k : Known) (ms : Members) → member_flaws k places.StreamTyp
 unfolding extra_members itself_of form_of item_content entries_of names_beside rows_of
 extras_says k ms f =
     let members = listed_says k places.StreamType (codes "packet-context-field-type-extra-members") (refl, refl) ms (λ d. refl) refl (λ n. refl) f own_names (refl, (refl, (refl, (refl, (refl, (refl, tt)))))) in
-    let s = made_says members.0 1 no_alignment in
+    let s = made_says members.0 1 refl in
     let all = s.2.0 in (
       s.0,
       ap (option_and_then (λ all. made all 1)) members.1 ∙ s.1,

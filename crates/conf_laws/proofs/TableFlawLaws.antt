@@ -3,10 +3,10 @@
 use Rattle.std.proofs.Common.{codes, ◌≡◌, ◌≢◌, ◌⊎◌, ◌&&◌, ◌||◌, ◌↔◌, ◌+◌, ℕ, zero, suc, Bool, true, false, cond, List, Option, Some, None, is_some, IsSome, inl, inr, refl, sym, ap, subst, ◌∙◌, not, [], ◌∷◌, Contains, Ok, Err, arith, ◌++◌, map, Result, unwrap_or}
 use Rattle.conf_laws.proofs.Agreement.{Agrees, IsTrue, nothing_agrees, inside_agrees, behind_agrees, Takes, takes_beside, takes_further, item_agrees, IsFrom, from_start, from_next, item_here}
 use Rattle.conf_laws.proofs.Numbers.{number_told}
-use Rattle.conf_laws.proofs.Readings.{some_none, some_same, class_told, only_unsigned, only_static, element_bits, by_element, by_found, by_test}
+use Rattle.conf_laws.proofs.Readings.{byte_object, some_none, some_same, class_told, only_unsigned, only_static, element_bits, by_element, by_found, by_test}
 use Rattle.conf_laws.proofs.Sound.{ObjectSound, object_sound, ContentSound, content_sound, flaws_at, property_here, first_flaws, first_item, optional_there}
-use Rattle.conf_laws.proofs.ValueFlawLaws.{IsJudged, then_judged, test_judged, same_judged, none_there, number_there, number_found, class_word, word_excluded, value_judged, name_judged}
-use Rattle.conf_laws.proofs.Words.{IsTaken, is_taken, HasNumber, Around, Parts, HasBehind, member_of, item_of, IsPropertyOf, IsLeftOut, IsNoClassAt, HasNotItsRows, IsByte, IsIdentifier, HasNoBits, IsNoShapeAt, IsFlawOf, IsNoValueOf, IsNoNameAt, words_of_classes, class_words, class_in, admits_class, content_under, presence_under, Told, rows_of, entries_of, Place, At, Content, Presence, Entries, class_named, class_of, class_said, other_class, may_inherit, resolved_content, is_needed, left_out, is_left_out, admitted, class_rule, row_there, rows_there, orders_there, all_there, told_by, property_flaws, inner_flaws, item_flaws, member_flaws, content_flaws, configuration_flaws, itself_of, Known, nothing, inside, behind, with_taken, key_of, names_beside, with_names, natural_in, is_position, place_of_properties, item_content, is_number, is_unsigned_integer, is_static_array, is_eight, is_byte, is_identifier, has_bits, element_has_bits, shape_of, Flaw, key, here, within, index, ◌>>=◌, at, wanted, needed, optional, given, text_of, HasMember, refusal, WrongKind, OutOfRange, Missing, Unknown, refused_where, lacks_refused, found_there, IsNoWordOf, as_natural, Data, null, object, Members, array, Items, no_items, item, no_members, member, get_member, get_item, as_str, nat_tests, true≢false, false≢true, and-false, and_parts, and_from, and_cases, or_parts, eq-eqb, All-nil, All-cons, All-map, All-append, All-weaker, All-contains, bytes_eq-Decides, All, option_map_or, bytes_eq, ⊤}
+use Rattle.conf_laws.proofs.ValueFlawLaws.{IsJudged, then_judged, test_judged, none_there, number_there, number_found, class_word, word_excluded, value_judged, name_judged}
+use Rattle.conf_laws.proofs.Words.{both_read, refused_test, refused_here_or_next, IsTaken, is_taken, HasNumber, Around, Parts, HasBehind, member_of, item_of, IsPropertyOf, IsLeftOut, IsNoClassAt, HasNotItsRows, IsByte, IsIdentifier, HasNoBits, IsNoShapeAt, IsFlawOf, IsNoValueOf, IsNoNameAt, words_of_classes, class_words, class_in, admits_class, content_under, presence_under, Told, rows_of, entries_of, Place, At, Content, Presence, Entries, class_named, class_of, class_said, other_class, may_inherit, resolved_content, is_needed, left_out, is_left_out, admitted, class_rule, row_there, rows_there, orders_there, all_there, told_by, property_flaws, inner_flaws, item_flaws, member_flaws, content_flaws, configuration_flaws, itself_of, Known, nothing, inside, behind, with_taken, key_of, names_beside, with_names, natural_in, is_position, place_of_properties, item_content, is_number, is_unsigned_integer, is_static_array, is_eight, is_byte, is_identifier, has_bits, element_has_bits, shape_of, Flaw, key, here, within, index, ◌>>=◌, at, wanted, needed, optional, given, text_of, HasMember, refusal, WrongKind, OutOfRange, Missing, Unknown, refused_where, lacks_refused, found_there, IsNoWordOf, as_natural, Data, null, object, Members, array, Items, no_items, item, no_members, member, get_member, get_item, as_str, nat_tests, true≢false, false≢true, and-false, and_parts, and_from, and_cases, or_parts, eq-eqb, All-nil, All-cons, All-map, All-append, All-weaker, All-contains, bytes_eq-Decides, All, option_map_or, bytes_eq, ⊤}
 use Rattle.conf_laws.proofs.Words.places
 use Rattle.conf_laws.proofs.Words.contents
 use Rattle.conf_laws.proofs.Words.presences
@@ -94,49 +94,37 @@ needed_told presences.Needed e = refl
 needed_told _ e = absurd cc
 
 module _ (ms : Members) where
-  -- a property that one of these rows needs is not there
-  abbrev LacksRow : List Told → Flaw → Type 0
-  LacksRow rows flaw = (row : Told) × Contains rows row × (row.presence ≡ presences.Needed) × (get_member row.name ms ≡ None) × (flaw ≡ within (key row.name) (here Missing))
+  row_refused : (rows : List Told) (flaw : Flaw) → rows_there ms rows ≡ Err flaw → (row : Told) × Contains rows row × (row_there ms row ≡ Err flaw)
+  row_refused [] flaw e = absurd cc
+  row_refused (row ∷ rows) flaw e = elim (refused_here_or_next (row_there ms row) _ flaw e) [
+    | inl first ↦ (row, (0, omega arith, refl), first)
+    | inr (x, went, later) ↦ let (r, among, refused) = row_refused rows flaw later in (r, (suc among.0, omega (arith, among.1), among.2), refused)
+  ]
 
-  abbrev LacksOrder : Place → Flaw → Type 0
-  LacksOrder place flaw = (place ≡ places.TraceType) × (optional (codes "trace-byte-order") ms ≡ None) × (optional (codes "native-byte-order") ms ≡ None) × (flaw ≡ within (key (codes "trace-byte-order")) (here Missing))
+  row_kept : (rows : List Told) (row : Told) → rows_there ms rows ≡ Ok tt → Contains rows row → row_there ms row ≡ Ok tt
+  row_kept [] row e (i, lt, is) = absurd (omega (arith, lt))
+  row_kept (r ∷ rows) row e (zero, lt, is) = subst (λ x. row_there ms x ≡ Ok tt) is (both_read (row_there ms r) (λ _. rows_there ms rows) tt e).1
+  row_kept (r ∷ rows) row e (suc i, lt, is) = row_kept rows row (both_read (row_there ms r) (λ _. rows_there ms rows) tt e).2 (i, omega (arith, lt), is)
 
-  abbrev IsMissing : Place → Flaw → Type 0
-  IsMissing place flaw = LacksRow (rows_of place) flaw ⊎ LacksOrder place flaw
-
-  row_told : (row : Told) (flaw : Flaw) → row_there ms row ≡ Err flaw → (row.presence ≡ presences.Needed) × (get_member row.name ms ≡ None) × (flaw ≡ within (key row.name) (here Missing))
-  row_told row flaw e =
-      let told = refused_where (is_needed row.presence && not (is_some (get_member row.name ms))) tt (within (key row.name) (here Missing)) flaw e in
-      let p = and_parts (is_needed row.presence) (not (is_some (get_member row.name ms))) told.0 in
-      (needed_told row.presence p.0, none_there (get_member row.name ms) (let none : is_some (get_member row.name ms) ≡ false = grind (arith, nat_tests) in none), told.1)
-
-  row_behind : (row : Told) (rows : List Told) (flaw : Flaw) → row_there ms row ≡ Ok tt → LacksRow (row ∷ rows) flaw → LacksRow rows flaw
-  row_behind row rows flaw went (r, (zero, lt, is), needed, none, same) =
-      let there : row_there ms r ≡ Ok tt = subst (λ x. row_there ms x ≡ Ok tt) is went in
-      let lacks : row_there ms r ≡ Err (within (key r.name) (here Missing)) = rw (needed, none) refl in
-      absurd cc
-  row_behind row rows flaw went (r, (suc i, lt, is), needed, none, same) = (r, (i, omega (arith, lt), is), needed, none, same)
-
-  rows_judged : (rows : List Told) → IsJudged (rows_there ms rows) (LacksRow rows)
-  rows_judged [] = λ flaw lacks. let lt = lacks.1.1 in absurd (omega (arith, lt))
-  rows_judged (row ∷ rows) =
-      then_judged (LacksRow (row ∷ rows)) (row_there ms row) _ (λ flaw r. let told = row_told row flaw r in (row, (0, omega arith, refl), told.0, told.1, told.2)) (λ x went.
-      same_judged (LacksRow rows) (LacksRow (row ∷ rows)) (rows_there ms rows) (λ flaw lacks. (lacks.0, (suc lacks.1.0, omega (arith, lacks.1.1), lacks.1.2), lacks.2, lacks.3, lacks.4)) (λ flaw. row_behind row rows flaw went) (rows_judged rows))
-
-  orders_judged : (place : Place) → ((flaw : Flaw) → ¬ LacksRow (rows_of place) flaw) → IsJudged (orders_there place ms) (IsMissing place)
+  order_told : (place : Place) (flaw : Flaw) → orders_there place ms ≡ Err flaw → HasNotItsRows place ms flaw
   unfolding orders_there
-  orders_judged places.TraceType clear =
-      let a = is_some (optional (codes "trace-byte-order") ms) in
-      let b = is_some (optional (codes "native-byte-order") ms) in
-      test_judged (IsMissing places.TraceType) (a || b) (within (key (codes "trace-byte-order")) (here Missing)) (λ fails. let none = or_parts a b fails in inr (refl, none_there _ none.0, none_there _ none.1, refl))
-      (λ holds flaw missing. elim missing [ inl row ↦ clear flaw row | inr order ↦ absurd (let none = order.1 in let nor = order.2 in let f = rw (none, nor) at holds in cc) ])
-  orders_judged _ clear = λ flaw missing. elim missing [ inl row ↦ clear flaw row | inr order ↦ absurd (let is = order.0 in cc) ]
+  order_told places.TraceType flaw e =
+      let (fails, same) = refused_test (is_some (optional (codes "trace-byte-order") ms) || is_some (optional (codes "native-byte-order") ms)) tt _ flaw e in
+      let none = or_parts (is_some (optional (codes "trace-byte-order") ms)) (is_some (optional (codes "native-byte-order") ms)) fails in
+      subst (HasNotItsRows places.TraceType ms) (sym same) (HasNotItsRows.no_byte_order refl (none_there _ none.0) (none_there _ none.1))
+  order_told _ flaw e = absurd cc
 
-  missing_judged : (place : Place) → IsJudged (all_there place ms) (IsMissing place)
+  missing_told : (place : Place) (flaw : Flaw) → all_there place ms ≡ Err flaw → HasNotItsRows place ms flaw
   unfolding all_there
-  missing_judged place =
-      let rows = rows_judged (rows_of place) in
-      then_judged (IsMissing place) (rows_there ms (rows_of place)) _ (λ flaw r. inl (subst (λ x. IsJudged x (LacksRow (rows_of place))) r rows)) (λ x went. orders_judged place (subst (λ y. IsJudged y (LacksRow (rows_of place))) went rows))
+  missing_told place flaw e = elim (refused_here_or_next (rows_there ms (rows_of place)) _ flaw e) [
+    | inl rows ↦
+        let (row, among, refused) = row_refused (rows_of place) flaw rows in
+        let (lacks, same) = refused_where (is_needed row.presence && not (is_some (get_member row.name ms))) tt (within (key row.name) (here Missing)) flaw refused in
+        let p = and_parts (is_needed row.presence) (not (is_some (get_member row.name ms))) lacks in
+        let none : is_some (get_member row.name ms) ≡ false = grind (arith, nat_tests) in
+        subst (HasNotItsRows place ms) (sym same) (HasNotItsRows.missing row among (needed_told row.presence p.0) (none_there (get_member row.name ms) none))
+    | inr (x, went, orders) ↦ order_told place flaw orders
+  ]
 
 -- ---- what a field type is as a whole
 
@@ -162,10 +150,6 @@ byte ms =
       λ e. let p = and_parts (option_map_or is_unsigned_integer (class_of ms) false) (size && align) e in let q = and_parts size align p.1 in (class_told is_unsigned_integer places.UnsignedInteger only_unsigned (class_of ms) p.0, (has_number (codes "size") ms 8).0 q.0, (eight ms).0 q.1),
       λ (class, eight_bits, aligned). and_from (option_map_or is_unsigned_integer (class_of ms) false) (size && align) (ap (λ o. option_map_or is_unsigned_integer o false) class) (and_from size align ((has_number (codes "size") ms 8).1 eight_bits) ((eight ms).1 aligned)),
     )
-
-byte_object : (o : Option Data) → is_byte o ≡ true → (ms : Members) × (o ≡ Some (object ms))
-byte_object (Some (object ms)) e = (ms, refl)
-byte_object _ e = absurd cc
 
 identifier : (ms : Members) → IsTrue (is_identifier ms) ↔ IsIdentifier ms
 unfolding is_identifier
@@ -219,10 +203,13 @@ shape_judged _ ms = λ flaw wrong. elim wrong as (λ f w. ⊥) [ IsNoShapeAt.no_
 
 -- ---- what readings tell
 
+pub refused_all : (P : Flaw → Type 0) (r : Result ⊤ Flaw) → ((flaw : Flaw) → r ≡ Err flaw → P flaw) → All P (told_by r)
+refused_all P (Ok x) told = All-nil P
+refused_all P (Err flaw) told = All-cons P flaw [] (told flaw refl) (All-nil P)
+
 -- what a reading refuses is one of these, where it is one of those
-pub told : (P Q : Flaw → Type 0) (r : Result ⊤ Flaw) → IsJudged r P → ((flaw : Flaw) → P flaw → Q flaw) → All Q (told_by r)
-told P Q (Ok x) h to = All-nil Q
-told P Q (Err flaw) h to = All-cons Q flaw [] (to flaw h) (All-nil Q)
+told : (P Q : Flaw → Type 0) (r : Result ⊤ Flaw) → IsJudged r P → ((flaw : Flaw) → P flaw → Q flaw) → All Q (told_by r)
+told P Q r h to = refused_all Q r (λ flaw e. to flaw (subst (λ x. IsJudged x P) e h))
 
 -- a reading that refuses nothing leaves none
 clear : (P : Flaw → Type 0) (r : Result ⊤ Flaw) (flaw : Flaw) → IsJudged r P → r ≡ Ok tt → ¬ P flaw
@@ -242,10 +229,6 @@ member_there all before rest name d (Parts.behind b k e r parts) has = member_th
 value_told : (k : Known) (around : Around) → Agrees k around → (content : Content) (d : Data) → All (IsFlawOf around content d) (inner_flaws k content d) → All (IsFlawOf around content d) (content_flaws k content d)
 value_told k around h content d held =
     All-append (IsFlawOf around content d) (told_by (itself_of k content d)) _ (told (IsNoValueOf around content d) (IsFlawOf around content d) (itself_of k content d) (value_judged k around h content d) (λ f wrong. IsFlawOf.wrong_value wrong)) held
-
-missing_is : (around : Around) (place : Place) (ms : Members) (flaw : Flaw) → IsMissing ms (place_of_properties place ms) flaw → IsFlawOf around (At place) (object ms) flaw
-missing_is around place ms flaw (inl (row, has, needed, none, same)) = subst (IsFlawOf around (At place) (object ms)) (sym same) (IsFlawOf.wrong_rows (HasNotItsRows.missing row has needed none))
-missing_is around place ms flaw (inr (is, a, b, same)) = subst (IsFlawOf around (At place) (object ms)) (sym same) (IsFlawOf.wrong_rows (HasNotItsRows.no_byte_order is a b))
 
 -- the flaws of a property, where those of what its value holds are such
 module _ (k : Known) (around : Around) (place : Place) (all before rest : Members) (name : List ℕ) (d : Data) (parts : Parts all before (member name d rest)) where
@@ -277,7 +260,7 @@ mutual
       let p = place_of_properties place ms in
       let P = IsFlawOf around (At place) (object ms) in
       All-append P (told_by (class_rule place ms)) _ (told (IsNoClassAt place ms) P (class_rule place ms) (class_judged place ms) (λ f wrong. IsFlawOf.wrong_class wrong))
-      (All-append P (told_by (all_there p ms)) _ (told (IsMissing ms p) P (all_there p ms) (missing_judged ms p) (missing_is around place ms))
+      (All-append P (told_by (all_there p ms)) _ (refused_all P (all_there p ms) (λ f e. IsFlawOf.wrong_rows (missing_told ms p f e)))
       (All-append P (member_flaws (inside p ms k) p ms) _ (members_told ms (inside p ms k) around place ms no_members Parts.at_the_first (inside_agrees k around h p ms))
       (told (IsNoShapeAt place ms) P (shape_of place ms) (shape_judged place ms) (λ f wrong. IsFlawOf.wrong_shape wrong))))
   inner_told _ k around h _ = All-nil _
@@ -343,14 +326,16 @@ no_rows places.Environment name entries is = refl
 no_rows _ name entries is = cc
 
 none_of : (around : Around) (content : Content) (d : Data) (flaw : Flaw) → IsFlawOf around content d flaw → (k : Known) → Agrees k around → ¬ ContentSound k content d
-unfolding is_left_out
+unfolding is_left_out all_there orders_there
 none_of around content d flaw (IsFlawOf.wrong_value wrong) k h sound = clear (IsNoValueOf around content d) (itself_of k content d) flaw (value_judged k around h content d) sound.itself wrong
 none_of around content d flaw (IsFlawOf.wrong_class {place = place} {ms = ms} wrong) k h sound = clear (IsNoClassAt place ms) (class_rule place ms) flaw (class_judged place ms) (object_sound k place ms sound.inner).class_fits wrong
 none_of around content d flaw (IsFlawOf.wrong_shape {place = place} {ms = ms} wrong) k h sound = clear (IsNoShapeAt place ms) (shape_of place ms) flaw (shape_judged place ms) (object_sound k place ms sound.inner).shape wrong
 none_of around content d flaw (IsFlawOf.wrong_rows {place = place} {ms = ms} (HasNotItsRows.missing row has needed none)) k h sound =
-    clear (IsMissing ms (place_of_properties place ms)) (all_there (place_of_properties place ms) ms) flaw (missing_judged ms (place_of_properties place ms)) (object_sound k place ms sound.inner).there (inl (row, has, needed, none, refl))
+    let there = row_kept ms (rows_of (place_of_properties place ms)) row (both_read (rows_there ms (rows_of (place_of_properties place ms))) _ tt (object_sound k place ms sound.inner).there).1 has in
+    absurd (let kept = rw (needed, none) at there in cc)
 none_of around content d flaw (IsFlawOf.wrong_rows {place = place} {ms = ms} (HasNotItsRows.no_byte_order is a b)) k h sound =
-    clear (IsMissing ms (place_of_properties place ms)) (all_there (place_of_properties place ms) ms) flaw (missing_judged ms (place_of_properties place ms)) (object_sound k place ms sound.inner).there (inr (is, a, b, refl))
+    let there = subst (λ p. orders_there p ms ≡ Ok tt) is (both_read (rows_there ms (rows_of (place_of_properties place ms))) _ tt (object_sound k place ms sound.inner).there).2 in
+    absurd (let kept = rw (a, b) at there in cc)
 none_of around content d flaw (IsFlawOf.wrong_rows {place = place} {ms = ms} (HasNotItsRows.unknown name v has none)) k h sound =
     let (j, taken, empty) = named_at k around h place ms (object_sound k place ms sound.inner) name v has in
     let (c, is) = known_there j (place_of_properties place ms) name v empty in

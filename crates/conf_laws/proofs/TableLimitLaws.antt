@@ -4,7 +4,7 @@ use Rattle.conf_laws.proofs.Agreement.{IsFrom, from_start, from_next, item_here}
 use Rattle.conf_laws.proofs.Properties.{fits_there, limits_at, first_limits, first_item_limits}
 use Rattle.conf_laws.proofs.Readings.{some_same, at_member, class_told, only_static, of_element, in_array, by_found, by_test}
 use Rattle.conf_laws.proofs.TableFlawLaws.{seen, refused_among}
-use Rattle.conf_laws.proofs.ValueFlawLaws.{none_there, divided}
+use Rattle.conf_laws.proofs.ValueFlawLaws.{none_there}
 use Rattle.conf_laws.proofs.Words.{All-weaker, All-append, All, HasMember, get_item, IsArray, HasElement, Nest, product, HasTooManyElements, PassesAt, IsLongText, IsNoPowerUpTo, PassesBy, PassesLimitOf, entries_of, content_under, Place, Content, Entries, Keys, class_of, told_by, times, at_least_one, elements, elements_in_array, within_limit, bytes_fit, divides, power_fits, is_outermost, arrays_fit, count_of, at_most, ranges_of, ranges_fit, place_fits, fits, is_label, key_fits, inner_limits, item_limits, member_limits, configuration_limits, content_limits, natural_in, place_of_properties, item_content, is_static_array, Flaw, key, index, here, within, refusal, Limit, as_natural, Data, object, Members, string, array, Items, no_items, item, no_members, member, get_member, nat_tests, mul-one, one-le-mul, mul-mod_right, leb-true, leb-false, lt-leb, ne_eqb, or_from, and_left, and_right, true≢false, eqb-false, and_cases, or_parts, All-nil, All-cons, All-contains, mul-le, option_map_or}
 use Rattle.conf_laws.proofs.Words.places
 use Rattle.conf_laws.proofs.Words.contents
@@ -71,16 +71,13 @@ module _ (ms : Members) (n : ℕ) (is_one : IsArray ms n) (some : 1 ≤ n) (leve
           let short = within.1 in
           (mul-le m (product rest) n k (let count = same_count os m is same in omega (arith, count)) within.0, omega (arith, short))
 
-larger : (n m : ℕ) → 1 ≤ n → m ≤ n * m
-larger n m some = let more : 1 * m ≤ n * m = mul-le 1 m n m some (omega arith) in omega (arith, more)
-
 array_measured : (levels : ℕ) (ms : Members) (n : ℕ) → IsArray ms n → 1 ≤ n → ((d : Data) → Measured levels d (elements levels d)) → (o : Option Data) → get_member (codes "element-field-type") ms ≡ o → Measured (suc levels) (object ms) (of_element levels (Some n) o)
 array_measured levels ms n is_one some inner None has = alone ms n is_one some levels has
 array_measured levels ms n is_one some inner (Some element) has = go (elements levels element) (inner element)
   where
     go : (o : Option ℕ) → Measured levels element o → Measured (suc levels) (object ms) (times (Some n) o)
     go None (inl (ns, nest, deep)) = inl (n ∷ ns, Nest.around_others ms n element ns is_one has nest, omega (arith, deep))
-    go None (inr (os, other, ns, same, has_too, nest, many)) = let more = larger n (product ns) some in inr (ms, element, n ∷ ns, refl, has, Nest.around_others ms n element ns is_one has nest, omega (arith, many, more))
+    go None (inr (os, other, ns, same, has_too, nest, many)) = let more : 1 * product ns ≤ n * product ns = mul-le 1 (product ns) n (product ns) some (omega arith) in inr (ms, element, n ∷ ns, refl, has, Nest.around_others ms n element ns is_one has nest, omega (arith, many, more))
     go (Some k) counted =
         by_test (λ (b : Bool). Measured (suc levels) (object ms) (cond b (Some (n * k)) None)) (nat_le (n * k) 1048576) (λ fits. around ms n is_one some levels element k has counted (leb-true (n * k) 1048576 fits))
         (λ large. inr (ms, element, n ∷ counted.nest.0, refl, has, Nest.around_others ms n element counted.nest.0 is_one has counted.nest.1, subst (λ x. 1048576 < n * x) (sym counted.nest.2) (leb-false (n * k) 1048576 large)))
@@ -123,7 +120,7 @@ power_fails high d = (
   by_found (λ (o : Option ℕ). divides high o ≡ false → IsNoPowerUpTo high d) (as_natural d) (λ is f. absurd cc) (λ n is f.
       let parts = or_parts (nat_eq n 0) (high % n == 0) f in
       (n, is, eqb-false n 0 parts.0, λ q product. eqb-false (high % n) 0 parts.1 (ap (λ h. h % n) (sym product) ∙ mul-mod_right n q))),
-  λ (n, is, some, none). ap (divides high) is ∙ or_from (nat_eq n 0) (high % n == 0) (ne_eqb n 0 some) (ne_eqb (high % n) 0 (λ e. none (high / n) (divided high n (omega (arith, some)) e))),
+  λ (n, is, some, none). ap (divides high) is ∙ or_from (nat_eq n 0) (high % n == 0) (ne_eqb n 0 some) (ne_eqb (high % n) 0 (λ e. none (high / n) (omega (arith, some, e)))),
 )
 
 module _ (place : Place) (d : Data) where

@@ -5,9 +5,9 @@ use Rattle.conf_laws.proofs.AllowedMaps.{IsMade, integer_says, config_name, AreA
 use Rattle.conf_laws.proofs.Structures.{AreExtras, structure_says, extras_says}
 use Rattle.conf_laws.proofs.Numbers.{number_told, natural_is_in}
 use Rattle.conf_laws.proofs.Properties.{IsWithin, AreWithin, is_within, object_within, optional_within, entry_within, all_within, flaws_in, names_of, OwnPlace, is_object, is_own, MapPlace, is_map, type_object}
-use Rattle.conf_laws.proofs.Readings.{Says, some_same, mapped_says, same_natural, class_told, only_unsigned, only_static, object_there, optional_found, by_found}
+use Rattle.conf_laws.proofs.Readings.{byte_object, Says, some_same, mapped_says, same_natural, class_told, only_unsigned, only_static, object_there, optional_found, by_found}
 use Rattle.conf_laws.proofs.Sound.{TypeSound, type_sound, HasRow, RowsSound, needed_sound, optional_sound, ObjectSound, ContentSound, object_sound, content_sound, held_at, first_entry, needed_object}
-use Rattle.conf_laws.proofs.Words.{is_passed, rows_of, Presence, admits_class, Place, At, Level, class_of, is_null, Known, inside, behind, nothing, members_or_none, natural_in, is_position, shape_of, is_identifier, is_byte, is_unsigned_integer, is_number, is_eight, at_most, entries_of, key_of, key_by, itself_of, leaf_of, level, whole_from, member_flaws, configuration_flaws, configuration_limits, Ascends, All-map, IsStreamType, IsEventType, IsConfig, IsPlainName, ClockType, Draft, KeepsStreamRules, KeepsRules, RecordHasBits, optional, as_natural, Data, null, boolean, object, string, Members, no_members, members_len, get_member, member, as_object, here, NoSuchAlias, false≢true, and_parts, same_Some, append-nil, option_map_or, alignment_of, alignment, number_type, magic_type, byte_type, feature_of, feature, byte_of, identifier, size, mapped, timestamp, header, context, event_header, integer, size_of, default_align, integer_align as align_of, natural, object_at as object_named, properties, said_behind, word, OnlyIf, IsPlainUnsigned, ContextFeatures, EventFeatures, HeaderFeatures, IntType, environment, level_of, event_type, event_types, clock_of, stream_type, stream_types, draft_with, draft_of_type, draft_of_trace, draft_of_root, draft_of, IsConfigStruct, IsConfigName, Config, EnvironmentEntry, EventType, StreamType}
+use Rattle.conf_laws.proofs.Words.{is_passed, rows_of, Presence, admits_class, Place, At, Level, class_of, Known, inside, behind, nothing, members_or_none, natural_in, is_position, shape_of, is_identifier, is_byte, is_unsigned_integer, is_number, is_eight, at_most, entries_of, key_of, key_by, itself_of, leaf_of, level, whole_from, member_flaws, configuration_flaws, configuration_limits, Ascends, All-map, IsStreamType, IsEventType, IsConfig, IsPlainName, ClockType, Draft, KeepsStreamRules, KeepsRules, RecordHasBits, optional, as_natural, Data, boolean, object, string, Members, no_members, members_len, get_member, member, as_object, here, NoSuchAlias, and_parts, same_Some, append-nil, option_map_or, alignment_of, alignment, number_type, magic_type, byte_type, feature_of, feature, byte_of, identifier, size, mapped, timestamp, header, context, event_header, integer, size_of, default_align, integer_align as align_of, natural, object_at as object_named, properties, said_behind, word, OnlyIf, IsPlainUnsigned, ContextFeatures, EventFeatures, HeaderFeatures, IntType, environment, level_of, event_type, event_types, clock_of, stream_type, stream_types, draft_with, draft_of_type, draft_of_trace, draft_of_root, draft_of, IsConfigStruct, IsConfigName, Config, EnvironmentEntry, EventType, StreamType}
 use Rattle.conf_laws.proofs.Words.places
 
 -- ---- unsigned integers
@@ -83,17 +83,13 @@ module _ (k : Known) (around : Place) (ms : Members) (f : member_flaws k around 
 abbrev pub IsByte : IntType → Type 0
 IsByte t = IsPlainUnsigned t × (t.size ≡ 8) × (t.align ≡ 8)
 
-is_no_null : (x : Data) → is_byte (Some x) ≡ true → is_null x ≡ false
-is_no_null null e = absurd (false≢true e)
-is_no_null _ e = refl
-
 eight_aligned : (o : Option Data) (size : ℕ) → is_eight o ≡ true → size ≡ 8 → unwrap_or (option_and_then alignment_of (option_and_then as_natural o)) (default_align size) ≡ 8
 eight_aligned None size e is = ap default_align is
 eight_aligned (Some d) size e is = ap (λ o. unwrap_or (option_and_then alignment_of o) (default_align size)) (number_told (as_natural d) 8 e)
 
-byte_says : (k : Known) (x : Data) → ContentSound k (At places.ElementType) x → is_byte (Some x) ≡ true → Says (option_and_then (integer false) (as_object x)) IsByte
+byte_says : (k : Known) (ms : Members) → ContentSound k (At places.ElementType) (object ms) → is_byte (Some (object ms)) ≡ true → Says (integer false ms) IsByte
 unfolding is_position align_of alignment natural
-byte_says k (object ms) h e =
+byte_says k ms h e =
     let t = type_sound k places.ElementType ms refl (object_sound k places.ElementType ms h.inner) in
     let p = and_parts (option_map_or is_unsigned_integer (class_of ms) false) (is_number (natural_in (codes "size") ms) 8 && is_eight (optional (codes "alignment") ms)) e in
     let q = and_parts (is_number (natural_in (codes "size") ms) 8) (is_eight (optional (codes "alignment") ms)) p.1 in
@@ -101,7 +97,6 @@ byte_says k (object ms) h e =
     let made = x.2 in
     let size = size_is ms x.0 8 made q.0 in
     (x.0, x.1, ((made.sign_is, made.no_clock), size, made.align_is ∙ eight_aligned (optional (codes "alignment") ms) (size_of ms) q.1 (sym made.size_is ∙ size)))
-byte_says k _ h e = absurd (false≢true e)
 
 bytes_say : (k : Known) (ms : Members) → ObjectSound k places.IdentifierFeature ms → Says (byte_of ms) IsByte
 unfolding is_position shape_of is_identifier byte_of object_named admits_class rows_of
@@ -110,8 +105,9 @@ bytes_say k ms h =
     let rows = subst (λ p. RowsSound (inside t.class ms k) p ms) (only_static t.class t.may_stand) t.rows in
     let (d, found, sound) = needed_sound (inside t.class ms k) places.StaticArray (codes "element-field-type") (At places.ElementType) ms (refl, refl) rows in
     let shaped = (and_parts (is_number (natural_in (codes "length") ms) 16) (is_byte (get_member (codes "element-field-type") ms)) (is_passed _ tt tt _ t.shape).0).1 in
-    let byte : is_byte (Some d) ≡ true = ap is_byte (sym found) ∙ shaped in
-    subst (λ o. Says (option_and_then (integer false) (option_and_then as_object o)) IsByte) (sym (optional_found (codes "element-field-type") ms d found (is_no_null d byte))) (byte_says (inside t.class ms k) d sound.value byte)
+    let (bs, same) = byte_object (get_member (codes "element-field-type") ms) shaped in
+    let inner = subst (λ x. ContentSound (inside t.class ms k) (At places.ElementType) x) (some_same (get_member (codes "element-field-type") ms) d (object bs) found same) sound.value in
+    subst (λ o. Says (option_and_then (integer false) (option_and_then as_object o)) IsByte) (sym (optional_found (codes "element-field-type") ms (object bs) same refl)) (byte_says (inside t.class ms k) bs inner (ap is_byte (sym same) ∙ shaped))
 
 -- ---- the features of a trace, a packet and an event record
 
@@ -225,16 +221,13 @@ event_says k name ms named f =
     let said : EventType = record { name = name; log_level = level; specific = specific.0; payload = payload.0 } in
     (said, rw (specific.1, payload.1) refl, (refl, λ h s bits. record { name = named; log_level = λ n is. level_allowed k ms n f is; specific = specific.2 h; payload = payload.2 h; has_bits = bits }))
 
-abbrev event_name : EventType → List ℕ
-event_name e = e.name
-
 abbrev pub AreGoodEvents : List EventType → Type 0
-AreGoodEvents es = AreAllowed event_name IsGoodEvent 1024 es
+AreGoodEvents es = AreAllowed (λ (e : EventType). e.name) IsGoodEvent 1024 es
 
 events_say : (k : Known) (ms : Members) → member_flaws k places.StreamType ms ≡ [] → Says (event_types k.levels ms) (λ es. AreWithin places.StreamType ms → AreGoodEvents es)
 unfolding event_types key_of key_by entries_of behind rows_of
 events_say k ms f =
-    map_says event_name IsGoodEvent MapPlace.event_types OwnPlace.event_type OwnPlace.event_types 1024 event_type (λ n. refl) (λ d j. refl) (λ j name d own judged flaws. event_says j name own (config_name name judged) flaws)
+    map_says (λ (e : EventType). e.name) IsGoodEvent MapPlace.event_types OwnPlace.event_type OwnPlace.event_types 1024 event_type (λ n. refl) (λ d j. refl) (λ j name d own judged flaws. event_says j name own (config_name name judged) flaws)
     k places.StreamType (codes "event-record-types") (refl, refl) ms k.levels refl f
 
 -- ---- data stream types
@@ -278,16 +271,13 @@ stream_says k name ms named f =
     let said : StreamType = record { name = name; default_clock = clock_of ms; context = context.0; extras = extras.0; event_header = header.0; common = common.0; events = events.0 } in
     (said, rw (context.1, extras.1, header.1, common.1, events.1) refl, (refl, λ h clocks. stream_allowed clocks said named context.2 (extras.2 h) header.2 (common.2 h) (events.2 h)))
 
-abbrev stream_name : StreamType → List ℕ
-stream_name s = s.name
-
 abbrev pub AreGoodStreams : List StreamType → Type 0
-AreGoodStreams ss = AreAllowed stream_name IsGoodStream 64 ss
+AreGoodStreams ss = AreAllowed (λ (s : StreamType). s.name) IsGoodStream 64 ss
 
 streams_say : (k : Known) (ms : Members) → k.levels ≡ properties (codes "$log-level-aliases") ms → member_flaws k places.TraceType ms ≡ [] → Says (stream_types ms) (λ ss. AreWithin places.TraceType ms → AreGoodStreams ss)
 unfolding stream_types key_of key_by entries_of behind rows_of
 streams_say k ms levels f =
-    map_says stream_name IsGoodStream MapPlace.stream_types OwnPlace.stream_type OwnPlace.stream_types 64 stream_type (λ n. refl) (λ d j. refl) (λ j name d own judged flaws. stream_says j name own (config_name name judged) flaws)
+    map_says (λ (s : StreamType). s.name) IsGoodStream MapPlace.stream_types OwnPlace.stream_type OwnPlace.stream_types 64 stream_type (λ n. refl) (λ d j. refl) (λ j name d own judged flaws. stream_says j name own (config_name name judged) flaws)
     k places.TraceType (codes "data-stream-types") (refl, refl) ms (properties (codes "$log-level-aliases") ms) levels f
 
 -- ---- the trace

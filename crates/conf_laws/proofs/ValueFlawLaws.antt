@@ -1,5 +1,5 @@
 -- What is told of a value by itself, and of the name of an entry, is a flaw of it; and where nothing is told it has none.
-use Rattle.std.proofs.Common.{◌≡◌, ◌≢◌, ◌⊎◌, ◌↔◌, ◌*◌, ◌/◌, ◌<◌, ◌≤◌, ◌^◌, ◌%◌, ◌==◌, ◌&&◌, ◌||◌, ℕ, zero, suc, ℤ, pos, negsuc, ◌<ℤ◌, Bool, true, false, not, cond, List, [], ◌∷◌, map, length, Contains, Option, Some, None, is_some, Result, Ok, Err, inl, inr, refl, sym, ap, subst, ◌∙◌, arith, get_or, codes, unwrap_or, option_map, option_and_then, nat_lt, nat_le, nat_eq, int_le}
+use Rattle.std.proofs.Common.{◌≡◌, ◌≢◌, ◌⊎◌, ◌↔◌, ◌≤◌, ◌^◌, ◌%◌, ◌==◌, ◌&&◌, ◌||◌, ℕ, zero, suc, ℤ, pos, negsuc, ◌<ℤ◌, Bool, true, false, not, cond, List, [], ◌∷◌, map, length, Contains, Option, Some, None, is_some, Result, Ok, Err, inl, inr, refl, sym, ap, subst, ◌∙◌, arith, get_or, codes, unwrap_or, option_map, option_and_then, nat_lt, nat_le, nat_eq, int_le}
 use Rattle.conf_laws.proofs.Agreement.{Agrees, IsTrue, dynamic_told, told_dynamic}
 use Rattle.conf_laws.proofs.Numbers.{whole_read, whole_there, lowest_end, highest_end, ReadSo, read_so, end_whole, some_size}
 use Rattle.conf_laws.proofs.Readings.{some_none, some_same, by_found, by_test, under_no_test}
@@ -70,9 +70,6 @@ whole_judged low high d = then_judged (IsNoWhole low high d) (whole_of low high 
 
 whole_same : (d : Data) (x z : ℤ) → IsWhole d x → IsWhole d z → x ≡ z
 whole_same d x z (m, is, whole) (n, there, integer) = let same : m ≡ n = some_same (as_number d) m n is there in some_same (as_integer n) x z (ap as_integer (sym same) ∙ whole) integer
-
-pub divided : (x n : ℕ) → 0 < n → x % n ≡ 0 → n * (x / n) ≡ x
-divided x n some e = omega (arith, some, e)
 
 a_power : (z : ℤ) → is_power_of_two z ≡ true → IsPowerOfTwo z
 a_power (pos n) e =

@@ -16,7 +16,7 @@ pub use Rattle.conf_tree.specs.declared.fault_kind.FaultKind.{FaultKind}
 pub use Rattle.conf_tree.specs.declared.fault_kind.FaultKind.TheVariants.{BadName, Limit, Missing, NameClash, NoSuchAlias, OutOfRange, ReservedName, Unknown, WrongKind}
 unfoldable pub use Rattle.conf_tree.specs.Reading.{whole_of}
 pub use Rattle.conf_values.proofs.LeafFlawLaws.{control_there, found_there, lacks_refused, listed as word_listed, name_refused, none_refused, plain_name_refused}
-pub use Rattle.conf_values.proofs.LeafFlawLaws.{refused_here_or_next, refused_where, wanted_found, whole_refused}
+pub use Rattle.conf_values.proofs.LeafFlawLaws.{refused_here_or_next, refused_test, refused_where, wanted_found, whole_refused}
 pub use Rattle.conf_values.proofs.Steps.{both_read, is_passed, ok_same, read_there}
 pub use Rattle.conf_values.specs.LeafFlaws.{IsControl, IsNoConfigText, IsNoFlag, IsNoList, IsNoName, IsNoObject, IsNoPlainName, IsNoText, IsNoUuid, IsNoWhole, IsNoWordOf}
 pub use Rattle.conf_values.specs.{Parts.proved, Scalar.{integer_or_none, is_printable, natural_or_none}}
