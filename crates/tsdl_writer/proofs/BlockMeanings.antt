@@ -1,5 +1,5 @@
 -- What the trees of blocks mean: the trace, the clock, the stream or the event that they were made of.
-use Rattle.tsdl_writer.proofs.TreeWords.{trace_items, stream_items, event_items, All, Bool, ByteOrder, ClockType, EnvironmentEntry, EnvironmentValue, Event, IfSome, IsDistinct, IsDistinct-head, IsDistinct-tail, IsHeldUuid, IsHeldValue, Known, List, Little, MemberType, None, Option, SFits, Some, Stream, StructType, [], ap, arith, bytes_eq, clock_items, clock_meaning, codes, context_names, each, environment_meaning, event_context, event_header, event_meaning, false, fields_scope, flag_value, flag_word, has_member, header_meaning, hyphenated_text, ints, is_trace, le-leb, length, length-map, list_all, list_any, lower, map, named_fact_meaning, named_fact_tree, nat_le, nat_lt, natural_value, negsuc, one_word, optional, packet_context, packet_header, pos, refl, scope_meaning, specific_context, stream_meaning, structure_of, suc, suits, suits_header, sym, trace_order, trace_uuid, true, uuid_value, w64, whole, whole_number, ℕ, ℤ, ◌^◌, ◌∷◌, ◌≡◌, ◌≤◌}
+use Rattle.tsdl_writer.proofs.TreeWords.{trace_items, stream_items, event_items, All, Bool, ByteOrder, ClockType, EnvironmentEntry, EnvironmentValue, Event, IfSome, IsDistinct, IsDistinct-head, IsDistinct-tail, IsHeldUuid, IsHeldValue, Known, List, Little, MemberType, None, Option, SFits, Some, Stream, StructType, [], ap, arith, bytes_eq, clock_items, clock_meaning, codes, context_names, environment_meaning, event_context, event_header, event_meaning, false, fields_scope, flag_value, flag_word, has_member, header_meaning, hyphenated_text, ints, is_trace, le-leb, length, length-map, list_all, lower, map, named_fact_meaning, named_fact_tree, nat_le, nat_lt, natural_value, negsuc, one_word, optional, packet_context, packet_header, pos, refl, scope_meaning, specific_context, stream_meaning, structure_of, suc, suits, suits_header, sym, trace_order, trace_uuid, true, uuid_value, w64, whole, whole_number, ℕ, ℤ, ◌^◌, ◌∷◌, ◌≡◌, ◌≤◌}
 use Rattle.tsdl_writer.proofs.{FieldMeanings.{Members, each_own}, StructureMeanings.found}
 use Rattle.ctf_types.specs.declared.EnvironmentValue.TheVariants as environment
 use Rattle.tsdl_grammar.specs.declared.tree.Value.TheVariants as values

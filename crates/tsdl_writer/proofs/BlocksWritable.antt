@@ -1,5 +1,5 @@
 -- The tokens of an allowed configuration's blocks can be written.
-use Rattle.tsdl_writer.proofs.TreeWords.{Item, number_toks, whole_number, All, All-head, All-map, All-tail, All-weaker, AllByRecursion, AreMembers, Big, ByteOrder, ClockType, Config, EnvironmentEntry, EnvironmentValue, EventType, IsClockType, IsConfig, IsConfigStruct, IsEventType, IsHeld, IsHeldClock, IsHeldValue, IsMetadataName, IsPlainName, IsStream, IsStreamType, IsStruct, List, Little, Name, None, Option, SFits, Some, StreamType, StructType, [], all_event_blocks, arith, block_and_semicolon, blocks_of, clock_block, clock_numbers, codes, context_numbers, context_of, environment_blocks, event_block, event_blocks, event_header_members, event_header_of, fact_toks, fact_tree, flag_word, flat_map, header_members, header_of, ints, is_identifier, item_toks, length, map, metadata_is_allowed, metadata_name_of_plain, metadata_of, name_toks, named_fact_toks, named_fact_tree, names_in, natural_item, negsuc, one_word, optional_items, order_word, pos, recursion_from_All, refl, scope_items, shown_members, shown_struct, stream_block, stream_blocks, stream_of, streams_of, struct_is_allowed, struct_with, struct_with-members, subst, text_item, text_toks, trace_block, two_words, uuid_item, w64, word_item, ℕ, ℤ, ◌++◌, ◌+◌, ◌-◌, ◌<◌, ◌^◌, ◌∙◌, ◌∷◌, ◌≡◌, ◌≤ℤ◌}
+use Rattle.tsdl_writer.proofs.TreeWords.{Item, number_toks, whole_number, All, All-head, All-map, All-tail, All-weaker, AllByRecursion, AreMembers, Big, ByteOrder, ClockType, Config, EnvironmentEntry, EnvironmentValue, EventType, IsClockType, IsConfig, IsEventType, IsHeld, IsHeldClock, IsHeldValue, IsMetadataName, IsPlainName, IsStream, IsStreamType, List, Little, Name, None, Option, SFits, Some, StreamType, StructType, [], all_event_blocks, arith, block_and_semicolon, blocks_of, clock_block, clock_numbers, codes, context_numbers, context_of, environment_blocks, event_block, event_blocks, event_header_members, event_header_of, fact_toks, fact_tree, flag_word, flat_map, header_members, header_of, ints, is_identifier, item_toks, length, map, metadata_is_allowed, metadata_name_of_plain, metadata_of, name_toks, named_fact_toks, named_fact_tree, names_in, natural_item, one_word, optional_items, order_word, recursion_from_All, refl, scope_items, shown_struct, stream_block, stream_blocks, stream_of, streams_of, subst, text_item, text_toks, trace_block, two_words, uuid_item, w64, word_item, ℕ, ℤ, ◌++◌, ◌+◌, ◌<◌, ◌^◌, ◌∷◌, ◌≡◌}
 use Rattle.tsdl_writer.proofs.Writable.{Can, nothing, mark, word, keyword, number, string, both, ended, in_braces, joined, whole, natural_value, word_value, text_value}
 use Rattle.tsdl_writer.proofs.{FieldMeanings.Members, StructureMeanings.Shows, StructuresRead.{header_shows, event_header_shows, context_shows, config_shows}}
 use Rattle.tsdl_writer.proofs.TreesWritable.{align_fits, flag_named, members_writable}

@@ -1,5 +1,5 @@
 -- What the trees of field types mean: the integer, the enumeration, the string or the array that they were made of.
-use Rattle.tsdl_writer.proofs.TreeWords.{get_or, All, All-head, All-tail, At, Contains, Dyn, list_all, IsLeaf, IsMappedTo, bytes_eq-Decides, false≢true, suc, zero, sym, ◌<◌, Base, Bin, Bool, ByteString, FieldType, Int, IntType, IsNest, IsRange, Known, Labelled, Leaf, List, Mapping, MemberType, None, Number, Option, Plain, Some, [], ap, are_lengths, arith, arrays_of, attributes, base_value, bracketed, bytes_eq, cases_Bool, chain_of, clock_value, count_bracket, count_of, each, entries_of, entry_meaning, entry_tree, entry_trees, enum_meaning, false, flag_value, high_number, high_of, inl, inr, int_le, int_meaning, int_type, int_type-own, integer_attributes, ints, kind_meaning, kind_tree, le-leb, length, length-map, list_any, map, nat_le, negsuc, pos, refl, signed_of, text_meaning, true, whole_number, ℕ, ℤ, ◌^◌, ◌∙◌, ◌∷◌, ◌≡◌, ◌≤ℤ◌, ◌≤◌}
+use Rattle.tsdl_writer.proofs.TreeWords.{get_or, All, All-head, All-tail, At, Contains, Dyn, list_all, IsLeaf, IsMappedTo, bytes_eq-Decides, sym, Base, Bin, Bool, ByteString, FieldType, Int, IntType, IsNest, IsRange, Known, Labelled, Leaf, List, Mapping, MemberType, None, Number, Option, Plain, Some, [], ap, are_lengths, arith, arrays_of, attributes, base_value, bracketed, bytes_eq, cases_Bool, chain_of, clock_value, count_bracket, count_of, each, entries_of, entry_meaning, entry_tree, entry_trees, enum_meaning, false, flag_value, high_number, high_of, inl, inr, int_le, int_meaning, int_type, int_type-own, integer_attributes, ints, kind_meaning, kind_tree, le-leb, length, length-map, list_any, map, nat_le, negsuc, pos, refl, signed_of, text_meaning, true, whole_number, ℕ, ℤ, ◌^◌, ◌∙◌, ◌∷◌, ◌≡◌, ◌≤ℤ◌, ◌≤◌}
 use Rattle.std.proofs.lemmas.List.Folds.{list_any_at}
 use Rattle.ctf_types.specs.declared.EnumType.{EnumType}
 use Rattle.ctf_types.specs.Allowed as allowed

@@ -1,5 +1,5 @@
 -- What the trees of a structure mean: its members as metadata has them, a dynamic array behind the member of its length.
-use Rattle.tsdl_writer.proofs.TreeWords.{get_or, AreMembers, IsStruct, AllByRecursion, At, Auto, Bool, Dyn, FieldType, HasBits, Int, IsDistinct, IsDistinct-head, IsDistinct-tail, Known, List, MemberType, None, Option, Plain, Some, StructType, [], align_of, align_with, ap, append-nil, append_assoc, arith, array_member, bracketed, bytes_eq, bytes_eq-Decides, cases_Bool, chain_of, eq-eqb, eqb, false, false≢true, flat_map, has_member, inl, inr, is_unsigned, le-leb, length, length-append, length_member, length_name, length_place, length_type, list_all, lt-ltb, member_meaning, member_tree, member_trees, members_meaning, names_in, nat_le, nat_lt, natural_number, not, prefix_len, recursion_from_All, refl, shown_members, struct_meaning, struct_type-gives, structure_of, structure_tree, subst, suc, sym, true, ℕ, ◌%◌, ◌&&◌, ◌++◌, ◌+◌, ◌<◌, ◌∙◌, ◌∷◌, ◌≡◌, ◌≤◌}
+use Rattle.tsdl_writer.proofs.TreeWords.{get_or, AreMembers, IsStruct, AllByRecursion, At, Auto, Bool, Dyn, FieldType, HasBits, Int, IsDistinct, IsDistinct-head, IsDistinct-tail, Known, List, MemberType, None, Option, Plain, Some, StructType, [], align_of, align_with, ap, append-nil, append_assoc, arith, array_member, bracketed, bytes_eq, bytes_eq-Decides, cases_Bool, chain_of, eq-eqb, eqb, false, false≢true, flat_map, has_member, inl, inr, is_unsigned, le-leb, length, length-append, length_member, length_name, length_place, length_type, lt-ltb, member_meaning, member_tree, member_trees, members_meaning, names_in, nat_le, nat_lt, natural_number, not, prefix_len, refl, shown_members, struct_meaning, struct_type-gives, structure_of, structure_tree, subst, suc, sym, true, ℕ, ◌%◌, ◌&&◌, ◌++◌, ◌+◌, ◌∙◌, ◌∷◌, ◌≡◌, ◌≤◌}
 use Rattle.tsdl_writer.proofs.FieldMeanings.{AreAutomatic, Members, kind_meant, no_nest, count_meant, lengths_allowed, arrays_of-chain, plain_meant}
 use Rattle.std.proofs.lemmas.{List.Folds.{list_any-append}, List.Sums.{list_all-from_AllPass}}
 use Rattle.ctf_types.specs.Allowed.{IsField}

@@ -1,5 +1,5 @@
 -- The structures of an allowed configuration's metadata are what their trees mean, and their members have the types that their names ask for.
-use Rattle.tsdl_writer.proofs.TreeWords.{get_or, Config, IsConfigStruct, IsStreamType, IsStruct, StreamType, StructType, context_of, event_header_of, header_of, no_members_shown, shown_struct, struct_is_allowed, struct_with, struct_with-members, ◌∙◌, All, All-head, All-tail, AllByRecursion, At, Dyn, Int, IntType, IsByteType, IsConfigMember, IsIdentity, IsMagic, IsUnsigned, Leaf, List, MemberType, None, Number, Option, Plain, Some, Static, [], bytes_eq, cases_Bool, codes, context_numbers, event_header_members, header_members, inl, inr, is_byte, is_unsigned, is_unsigned_of, is_uuid, list_all, list_any, number_member, refl, shown_members, suits, suits_header, true, uuid_member, ℕ, ◌++◌, ◌∷◌, ◌≡◌}
+use Rattle.tsdl_writer.proofs.TreeWords.{get_or, Config, IsConfigStruct, IsStreamType, IsStruct, StreamType, StructType, context_of, event_header_of, header_of, no_members_shown, shown_struct, struct_is_allowed, struct_with, struct_with-members, ◌∙◌, All, At, Dyn, Int, IntType, IsByteType, IsConfigMember, IsIdentity, IsMagic, IsUnsigned, Leaf, List, MemberType, None, Number, Option, Plain, Some, Static, [], bytes_eq, cases_Bool, codes, context_numbers, event_header_members, header_members, inl, inr, is_byte, is_unsigned, is_unsigned_of, is_uuid, list_all, list_any, number_member, refl, shown_members, suits, suits_header, true, uuid_member, ℕ, ◌++◌, ◌∷◌, ◌≡◌}
 use Rattle.tsdl_writer.proofs.{FieldMeanings.{Members, is_automatic, AreAutomatic}, StructureMeanings.Shows}
 use Rattle.std.proofs.lemmas.{List.Folds.{list_all-append}, List.Sums.{list_all-from_AllPass}}
 use Rattle.ctf_types.specs.Allowed.{Where}

@@ -1,5 +1,5 @@
 -- The blocks of an allowed configuration mean its metadata.
-use Rattle.tsdl_writer.proofs.TreeWords.{All, clock_items, AllByRecursion, Block, ClockType, Config, Denotes, EnvironmentEntry, IsConfig, IsHeld, IsHeldClock, IsHeldValue, IsMetadata, IsString, IsStruct, Item, List, Some, StreamType, [], all_event_blocks, ap, append-nil, arith, at_most_one, blocks_of, clock_block, clock_in, clock_meaning, each, environment_blocks, environment_in, event_block, event_blocks, event_in, flat_map, flat_map-append, header_members, header_of, known_of, map, metadata_is_allowed, metadata_of, named_fact_tree, numbered, recursion_from_All, refl, stream_block, stream_blocks, stream_in, streams_meaning, streams_of, struct_with, struct_with-members, structure_of, text_meta, text_toks, trace_block, trace_in, trace_items, written, ℕ, ◌++◌, ◌+◌, ◌∙◌, ◌∷◌, ◌≡◌}
+use Rattle.tsdl_writer.proofs.TreeWords.{All, clock_items, AllByRecursion, Block, ClockType, Config, Denotes, EnvironmentEntry, IsConfig, IsHeld, IsHeldClock, IsMetadata, IsString, Item, List, Some, StreamType, [], all_event_blocks, ap, append-nil, arith, at_most_one, blocks_of, clock_block, clock_in, clock_meaning, each, environment_blocks, environment_in, event_block, event_blocks, event_in, flat_map, flat_map-append, header_members, header_of, known_of, map, metadata_is_allowed, metadata_of, named_fact_tree, numbered, recursion_from_All, refl, stream_block, stream_blocks, stream_in, streams_meaning, streams_of, text_meta, text_toks, trace_block, trace_in, trace_items, written, ℕ, ◌++◌, ◌+◌, ◌∙◌, ◌∷◌, ◌≡◌}
 use Rattle.tsdl_writer.proofs.{FieldMeanings.each_own, StructureMeanings.structure_read, StructuresRead.{header_shows, header_suits}}
 use Rattle.tsdl_writer.proofs.BlockMeanings.{trace_found, trace_uuid_is, header_is, clock_is, environment_is, no_two-distinct}
 use Rattle.tsdl_writer.proofs.{NumberedBlocks.{none_taken, bares_by_number, all_tagged, all_have, each_with}, StreamMeanings.{streams_read, all_events_read}}

@@ -1,5 +1,5 @@
 -- The tokens of an allowed configuration's members can be written: their names are identifiers, and their numbers have 64 bits.
-use Rattle.tsdl_writer.proofs.TreeWords.{All, All-contains, All-head, All-tail, AreMembers, At, Auto, Base, Bin, Bool, ByteString, Dyn, Int, IntType, IsLeaf, IsMappedTo, IsMetadataName, IsRange, Labelled, Leaf, List, Mapping, None, Number, Option, Plain, Some, [], arith, attr_toks, base_number, bracket_toks, cases_Bool, cases_lt, chain_of, codes, count_bracket, entries_toks, entry_toks, entry_tree, entry_trees, false, flag_word, flat_map, high_number, high_toks, inl, inr, int_le, int_toks, integer_attributes, ints, is_identifier, kind_toks, kind_tree, length_name, length_type, map, mapping_attributes, max, member_toks, member_trees, mod-eq_of_lt, names_in, negsuc, next_entry_toks, pos, refl, shown_members, subst, true, ℕ, ℤ, ◌%◌, ◌*◌, ◌++◌, ◌+◌, ◌-◌, ◌<◌, ◌^◌, ◌∷◌, ◌≡◌, ◌≤ℤ◌, ◌≤◌}
+use Rattle.tsdl_writer.proofs.TreeWords.{All, All-contains, All-head, All-tail, AreMembers, At, Auto, Base, Bin, Bool, ByteString, Dyn, Int, IntType, IsLeaf, IsMappedTo, IsMetadataName, IsRange, Labelled, Leaf, List, Mapping, None, Number, Option, Plain, Some, [], arith, attr_toks, base_number, bracket_toks, cases_Bool, cases_lt, chain_of, codes, count_bracket, entries_toks, entry_toks, entry_tree, entry_trees, false, flag_word, flat_map, high_number, high_toks, inl, inr, int_le, int_toks, integer_attributes, ints, is_identifier, kind_toks, kind_tree, length_name, length_type, map, mapping_attributes, max, member_toks, member_trees, mod-eq_of_lt, names_in, negsuc, next_entry_toks, pos, refl, shown_members, true, ℕ, ℤ, ◌%◌, ◌*◌, ◌++◌, ◌+◌, ◌-◌, ◌<◌, ◌^◌, ◌∷◌, ◌≡◌, ◌≤ℤ◌, ◌≤◌}
 use Rattle.tsdl_writer.proofs.Writable.{Can, nothing, mark, word, keyword, number, string, both, ended, in_braces, whole, natural_value, word_value}
 use Rattle.tsdl_writer.proofs.FieldMeanings.{Members, AreAutomatic}
 use Rattle.std.proofs.Math.Nat.{le-mul_of_pos_right, mul-le-mul_right, mul-pos}

@@ -1,4 +1,4 @@
-use Rattle.tsdl_writer.proofs.Printing.{SFits, [], clock_numbers, codes, flag_word, flat_map, item_toks, natural_item, optional_items, rules, sym, text_item, to_z-of_z, uuid_item, w128, w64, whole_item, word_item, ◌++◌, ◌∷◌, last, regroup, pair, block}
+use Rattle.tsdl_writer.proofs.Printing.{SFits, [], clock_numbers, codes, flag_word, item_toks, natural_item, optional_items, rules, sym, text_item, to_z-of_z, uuid_item, w128, w64, whole_item, word_item, ◌++◌, ◌∷◌, last, regroup, pair, block}
 use Rattle.tsdl_writer.proofs.blocks.clock.Goals as goal
 
 pub returns : goal.returns

@@ -1,4 +1,4 @@
-use Rattle.tsdl_writer.proofs.Printing.{EnvironmentEntry, IsHeldValue, List, ap, drop, drop_all, false≢true, flat_map, length, map, named_fact_toks, named_fact_tree, rules, sym, ◌+◌, ◌==◌, ◌∙◌, last, begun, one_more, all_printed, item, environment_stands, all_more, all_met}
+use Rattle.tsdl_writer.proofs.Printing.{EnvironmentEntry, IsHeldValue, List, ap, drop, drop_all, false≢true, flat_map, length, map, named_fact_toks, named_fact_tree, sym, ◌+◌, ◌==◌, ◌∙◌, last, one_more, all_printed, item, environment_stands, all_more, all_met}
 use Rattle.tsdl_writer.proofs.blocks.environment.Goals as goal
 
 pub loop-entry-preserved : goal.loop-entry-preserved

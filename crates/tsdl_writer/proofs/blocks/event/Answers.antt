@@ -1,4 +1,4 @@
-use Rattle.tsdl_writer.proofs.Printing.{codes, flat_map, item_toks, natural_item, one_word, optional_items, refl, scope_items, text_item, ◌++◌, ◌∷◌, last, block}
+use Rattle.tsdl_writer.proofs.Printing.{codes, natural_item, one_word, optional_items, refl, scope_items, text_item, ◌∷◌, last, block}
 use Rattle.tsdl_writer.proofs.blocks.event.Goals as goal
 
 pub returns : goal.returns

@@ -1,4 +1,4 @@
-use Rattle.tsdl_writer.proofs.Printing.{codes, context_numbers, event_header_members, flat_map, item_toks, natural_item, refl, scope_items, two_words, ◌++◌, ◌∷◌, last, block}
+use Rattle.tsdl_writer.proofs.Printing.{codes, context_numbers, event_header_members, natural_item, refl, scope_items, two_words, ◌++◌, ◌∷◌, last, block}
 use Rattle.tsdl_writer.proofs.blocks.stream.Goals as goal
 
 pub returns : goal.returns

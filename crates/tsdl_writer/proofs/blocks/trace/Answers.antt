@@ -1,4 +1,4 @@
-use Rattle.tsdl_writer.proofs.Printing.{codes, flat_map, header_members, item_toks, natural_item, optional_items, order_word, scope_items, two_words, uuid_item, word_item, ◌++◌, ◌∷◌, [], last, block}
+use Rattle.tsdl_writer.proofs.Printing.{codes, header_members, natural_item, optional_items, order_word, scope_items, two_words, uuid_item, word_item, ◌∷◌, [], last, block}
 use Rattle.tsdl_writer.proofs.blocks.trace.Goals as goal
 
 pub returns : goal.returns

@@ -1,6 +1,6 @@
 use Rattle.tsdl_grammar.specs.declared.atom.Atom.TheVariants as atoms
 use Rattle.tsdl_grammar.specs.declared.token.Mark.TheVariants as marks
-use Rattle.tsdl_writer.proofs.Printing.{Auto, Dyn, List, Prints, [], array_member, bracket_toks, chain_of, count_bracket, flat_map, int_toks, integer_attributes, kind_toks, kind_tree, length_member, length_name, length_type, map, member_toks, member_tree, rules, subst, ◌++◌, ◌∷◌, ◌≡◌, last, regroup, nothing_behind, line, groups}
+use Rattle.tsdl_writer.proofs.Printing.{Auto, Dyn, [], array_member, bracket_toks, chain_of, count_bracket, flat_map, int_toks, integer_attributes, kind_toks, kind_tree, length_member, length_name, length_type, map, member_toks, rules, ◌++◌, ◌∷◌, ◌≡◌, last, regroup, nothing_behind, line, groups}
 use Rattle.tsdl_writer.proofs.members.member.Goals as goal
 
 pub returns-in_ok-lengths-in-Plain : goal.returns-in_ok-lengths-in-Plain

@@ -1,4 +1,4 @@
-use Rattle.tsdl_writer.proofs.Printing.{ap, arith, drop, drop_all, flat_map, length, member_toks_of, ◌+◌, ◌≤◌, begun, one_more, all_printed, member_at}
+use Rattle.tsdl_writer.proofs.Printing.{ap, arith, drop, drop_all, flat_map, length, member_toks_of, ◌+◌, ◌≤◌, one_more, all_printed, member_at}
 use Rattle.tsdl_writer.proofs.members.members.Goals as goal
 
 pub loop-index-preserved : goal.loop-index-preserved

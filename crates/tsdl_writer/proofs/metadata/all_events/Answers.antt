@@ -1,4 +1,4 @@
-use Rattle.tsdl_writer.proofs.Printing.{EventType, List, Prints, StreamType, all_event_blocks, ap, block_and_semicolon, drop, drop_all, event_blocks, flat_map-append, subst, text_toks, ◌+◌, ◌∙◌, begun, one_more, all_printed, item}
+use Rattle.tsdl_writer.proofs.Printing.{EventType, List, Prints, StreamType, all_event_blocks, ap, block_and_semicolon, drop, drop_all, event_blocks, flat_map-append, subst, text_toks, ◌+◌, ◌∙◌, one_more, all_printed, item}
 use Rattle.tsdl_writer.proofs.metadata.all_events.Goals as goal
 
 pub loop-id-preserved : goal.loop-id-preserved

@@ -1,4 +1,4 @@
-use Rattle.tsdl_writer.proofs.Printing.{ClockType, IsHeldClock, List, ap, block_and_semicolon, clock_block, drop, drop_all, map, rules, text_toks, ◌+◌, begun, one_more, all_printed, item, all_more, all_met}
+use Rattle.tsdl_writer.proofs.Printing.{ClockType, IsHeldClock, List, ap, block_and_semicolon, clock_block, drop, drop_all, map, text_toks, ◌+◌, one_more, all_printed, item, all_more, all_met}
 use Rattle.tsdl_writer.proofs.metadata.clocks.Goals as goal
 
 pub loop-one-preserved : goal.loop-one-preserved

@@ -1,4 +1,4 @@
-use Rattle.tsdl_writer.proofs.Printing.{EventType, List, ap, block_and_semicolon, drop, drop_all, event_block, event_blocks, text_toks, ◌+◌, begun, one_more, all_printed, item}
+use Rattle.tsdl_writer.proofs.Printing.{EventType, List, ap, block_and_semicolon, drop, drop_all, event_block, event_blocks, text_toks, ◌+◌, one_more, all_printed, item}
 use Rattle.tsdl_writer.proofs.metadata.events.Goals as goal
 
 pub loop-id-preserved : goal.loop-id-preserved

@@ -1,4 +1,4 @@
-use Rattle.tsdl_writer.proofs.Printing.{List, StreamType, ap, block_and_semicolon, drop, drop_all, stream_block, stream_blocks, text_toks, ◌+◌, begun, one_more, all_printed, item}
+use Rattle.tsdl_writer.proofs.Printing.{List, StreamType, ap, block_and_semicolon, drop, drop_all, stream_block, stream_blocks, text_toks, ◌+◌, one_more, all_printed, item}
 use Rattle.tsdl_writer.proofs.metadata.streams.Goals as goal
 
 pub loop-id-preserved : goal.loop-id-preserved

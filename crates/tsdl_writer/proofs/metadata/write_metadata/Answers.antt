@@ -1,4 +1,4 @@
-use Rattle.tsdl_writer.proofs.Printing.{All, Atom, Begins, ClockType, Config, Denotes, Ends, EnvironmentEntry, IsHeld, IsHeldClock, IsHeldValue, List, Printer, StreamType, [], all_event_blocks, append-nil, block_and_semicolon, blocks_of, clock_block, environment_blocks, map, metadata_of, stream_blocks, subst, sym, text_toks, trace_block, ℕ, ◌++◌, ◌∷◌, ◌≡◌, regroup, pair}
+use Rattle.tsdl_writer.proofs.Printing.{All, Atom, ClockType, Config, Denotes, Ends, EnvironmentEntry, IsHeld, IsHeldClock, IsHeldValue, List, Printer, StreamType, [], all_event_blocks, append-nil, block_and_semicolon, blocks_of, clock_block, environment_blocks, map, metadata_of, stream_blocks, subst, sym, text_toks, trace_block, ℕ, ◌++◌, ◌∷◌, ◌≡◌, regroup, pair}
 use Rattle.tsdl_writer.proofs.TreeWords.{written}
 use Rattle.tsdl_writer.proofs.TextMeaning.{written_denotes}
 use Rattle.tsdl_writer.proofs.metadata.write_metadata.Goals as goal

@@ -1,4 +1,4 @@
-use Rattle.tsdl_writer.proofs.Printing.{refl, codes, event_header_members, false, is_none, member_toks_of, number_member, rules, two_words, ◌≡◌, last, scoped, two_off, groups}
+use Rattle.tsdl_writer.proofs.Printing.{refl, codes, event_header_members, false, is_none, rules, two_words, ◌≡◌, last, scoped, two_off, groups}
 use Rattle.tsdl_writer.proofs.scopes.event_header.Goals as goal
 use Rattle.tsdl_writer.proofs.scopes.event_header.Goals.{else-is_none-via-then-is_none+else-is_none-2, else-is_none-via-else-is_none}
 

@@ -1,4 +1,4 @@
-use Rattle.tsdl_writer.proofs.Printing.{refl, codes, false, header_members, is_none, member_toks_of, number_member, rules, two_words, uuid_member, ◌++◌, ◌≡◌, last, scoped, three_off, groups}
+use Rattle.tsdl_writer.proofs.Printing.{refl, codes, false, header_members, is_none, rules, two_words, ◌≡◌, last, scoped, three_off, groups}
 use Rattle.tsdl_writer.proofs.scopes.header.Goals as goal
 use Rattle.tsdl_writer.proofs.scopes.header.Goals.{else-is_none-via-then-is_none+then-is_none-2+else-is_none-3, else-is_none-via-then-is_none+else-is_none-2, else-is_none-via-else-is_none}
 

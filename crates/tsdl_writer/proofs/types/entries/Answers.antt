@@ -1,4 +1,4 @@
-use Rattle.tsdl_writer.proofs.Printing.{Ends, List, Mapping, ap, arith, drop, drop_all, entries_toks, entry_toks, entry_tree, entry_trees, flat_map, length, map, next_entry_toks, subst, sym, take, take_rest, ◌++◌, ◌+◌, ◌-◌, ◌<◌, ◌∙◌, ◌∷◌, ◌≡◌, begun, one_more, all_printed, item, groups}
+use Rattle.tsdl_writer.proofs.Printing.{Ends, List, Mapping, ap, arith, drop, drop_all, entries_toks, entry_tree, entry_trees, flat_map, length, map, next_entry_toks, subst, sym, take, take_rest, ◌++◌, ◌+◌, ◌-◌, ◌<◌, ◌∙◌, ◌∷◌, ◌≡◌, one_more, all_printed, item, groups}
 use Rattle.tsdl_writer.proofs.types.entries.Goals as goal
 
 pub loop-mapping-preserved : goal.loop-mapping-preserved

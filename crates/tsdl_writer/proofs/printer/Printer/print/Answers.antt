@@ -1,4 +1,4 @@
-use Rattle.tsdl_writer.proofs.Printing.{ap, drop, drop_all, drop_more, flat_map, token_toks, ◌+◌, begun, one_more, all_printed}
+use Rattle.tsdl_writer.proofs.Printing.{ap, drop, drop_all, drop_more, flat_map, token_toks, ◌+◌, one_more, all_printed}
 use Rattle.tsdl_writer.proofs.printer.Printer.print.Goals as goal
 
 pub loop-token-preserved : goal.loop-token-preserved
