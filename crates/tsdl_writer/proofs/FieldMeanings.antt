@@ -90,7 +90,7 @@ arrays_of-chain _ = refl
 abbrev pub Members : Type 0
 Members = List (List ℕ × MemberType)
 
--- members without a listed length
+-- a member without a listed length
 abbrev pub is_automatic : MemberType → Bool
 is_automatic (Dyn t (At i)) = false
 is_automatic _ = true

@@ -69,14 +69,11 @@ entry_groups label low high rest e = simp append_assoc (rw (append-nil low) at e
 -- features without a member are off
 pub three_off : (a b c : Option IntType) → number_member (codes "magic") a ++ uuid_member b ++ number_member (codes "stream_id") c ≡ [] → (is_none a ≡ true) × (is_none b ≡ true) × (is_none c ≡ true)
 three_off None None None e = (refl, refl, refl)
-three_off None None (Some c) e = absurd cc
-three_off None (Some b) c e = absurd cc
-three_off (Some a) b c e = absurd cc
+three_off _ _ _ e = absurd cc
 
 pub two_off : (a b : Option IntType) → number_member (codes "id") a ++ number_member (codes "timestamp") b ≡ [] → (is_none a ≡ true) × (is_none b ≡ true)
 two_off None None e = (refl, refl)
-two_off None (Some b) e = absurd cc
-two_off (Some a) b e = absurd cc
+two_off _ _ e = absurd cc
 
 -- a block of three lists of items
 pub block : {p : Printer} {text : List ℕ} (w : List ℕ) (xs ys zs : List Item) (rest : List Atom)
