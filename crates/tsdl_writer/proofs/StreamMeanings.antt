@@ -7,19 +7,15 @@ use Rattle.ctf_types.specs.MetadataOf as meta
 one_id : (m : List ℕ × MemberType) → (bytes_eq m.0 (codes "id") ≡ true → IsUnsigned m.1) → list_any (bytes_eq m.0) (codes "id" ∷ []) ≡ true → IsUnsigned m.1
 one_id m h k = elim (cases_Bool (bytes_eq m.0 (codes "id"))) [ inl e ↦ h e | inr e ↦ absurd (false≢true (sym (rw e refl) ∙ k)) ]
 
-has_sizes : (s : StreamType) → (has_member (codes "packet_size") (context_of s).members ≡ true) × (has_member (codes "content_size") (context_of s).members ≡ true)
-unfolding context_of shown_members
-has_sizes s = (refl, refl)
-
 stream_block_read : (known : Known) (n : ℕ) (s : StreamType) → IsStreamType known.clocks s → IsStream known.clocks (stream_of n s)
     → stream_meaning known (stream_items n (context_numbers s.context ++ s.extras.members) (event_header_members s.event_header) s.common.members s.common.min_align) ≡ Some (bare n s)
-unfolding bare stream_of
+unfolding bare stream_of context_of shown_members
 stream_block_read known n s t h =
     let context = context_numbers s.context ++ s.extras.members in let header = event_header_members s.event_header in
     stream_is known context header s.common.members s.common.min_align (bare n s)
     (structure_read known context 8 (context_of s) (context_shows known.clocks s t h.context), all_suit context_names (context_of s).members h.own_are_unsigned)
     (structure_read known header 8 (event_header_of s) (event_header_shows known.clocks s h.event_header), all_suit (codes "id" ∷ []) (event_header_of s).members (λ k d l. one_id (get_or (event_header_of s).members k d) (h.id k d l)))
-    (structure_read known s.common.members s.common.min_align (shown_struct s.common) (config_shows known.clocks s.common t.common)) (has_sizes s) refl
+    (structure_read known s.common.members s.common.min_align (shown_struct s.common) (config_shows known.clocks s.common t.common)) (refl, refl) refl
 
 pub streams_read : (known : Known) (n : ℕ) (ss : List StreamType) → AllByRecursion (IsStreamType known.clocks) ss → AllByRecursion (IsStream known.clocks) (streams_of n ss)
     → each (stream_meaning known) (flat_map stream_in (stream_blocks n ss)) ≡ Some (bares n ss)
