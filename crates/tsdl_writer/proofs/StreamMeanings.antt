@@ -1,5 +1,5 @@
 -- What the stream and event blocks of a configuration mean: its streams by number, each with its events.
-use Rattle.tsdl_writer.proofs.TreeWords.{get_or, AllByRecursion, All, All-head, All-tail, EventType, IsEventType, IsStream, IsStreamType, IsUnsigned, Known, List, MemberType, Some, StreamType, [], all_event_blocks, ap, bytes_eq, cases_Bool, codes, context_names, context_numbers, context_of, each, event_blocks, event_header_members, event_header_of, event_in, event_items, event_meaning, event_of, false≢true, flat_map, flat_map-append, has_member, inl, inr, list_any, refl, shown_members, shown_struct, stream_blocks, stream_in, stream_items, stream_meaning, stream_of, streams_of, sym, true, ℕ, ◌++◌, ◌+◌, ◌∙◌, ◌∷◌, ◌≡◌}
+use Rattle.tsdl_writer.proofs.TreeWords.{get_or, AllByRecursion, All, All-head, All-tail, EventType, IsEventType, IsStream, IsStreamType, IsUnsigned, Known, List, MemberType, Some, StreamType, [], all_event_blocks, ap, bytes_eq, cases_Bool, codes, context_names, context_numbers, context_of, each, event_blocks, event_header_members, event_header_of, event_in, event_items, event_meaning, event_of, false≢true, flat_map, flat_map-append, inl, inr, list_any, refl, shown_members, shown_struct, stream_blocks, stream_in, stream_items, stream_meaning, stream_of, streams_of, sym, true, ℕ, ◌++◌, ◌+◌, ◌∙◌, ◌∷◌, ◌≡◌}
 use Rattle.tsdl_writer.proofs.{StructureMeanings.structure_read, StructuresRead.{context_shows, event_header_shows, config_shows, all_suit}}
 use Rattle.tsdl_writer.proofs.{BlockMeanings.{stream_is, event_is}, NumberedBlocks.{each-append, bare, bares, tagged, all_tagged}}
 use Rattle.ctf_types.specs.MetadataOf as meta
