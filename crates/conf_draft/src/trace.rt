@@ -25,14 +25,14 @@ pub fn draft_of(alloc: Global, number: Option<Uuid>, value: &Value) -> Result<Dr
 {
     let trace = object(value.as_object().unwrap(), "trace").unwrap();
     let trace_type = object(trace, "type").unwrap();
+    let environment = environment(alloc, trace)?;
+    let clocks = clock_types(alloc, trace_type)?;
+    let streams = stream_types(alloc, trace_type)?;
     let (order, two_orders) = byte_order(trace_type);
     let (uuid, lacks_number) = identifier(number, trace_type);
     let empty = Map::new(alloc);
     let features = object_or(trace_type, "$features", &empty);
     let header = header(features, word(trace_type, "uuid").is_some());
-    let environment = environment(alloc, trace)?;
-    let clocks = clock_types(alloc, trace_type)?;
-    let streams = stream_types(alloc, trace_type)?;
     Ok(Draft {
         config: Config {
             order,

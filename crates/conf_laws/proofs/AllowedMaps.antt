@@ -3,7 +3,7 @@
 -- types that have no flaw and pass no limit are ones that the rules allow.
 use Rattle.std.proofs.Common.{◌≡◌, ℕ, ◌||◌, ◌&&◌, true, List, length, Ok, arith, ◌==◌, ◌%◌, Bool, Some, None, nat_lt, sym, ap, ◌≢◌, ℤ, pos, suc, ◌<◌, ◌≤◌, [], ◌∷◌, ◌++◌, Less, Greater, nat_cmp, refl, subst, ◌∙◌, length-append, All, Option, map, cond, lt-ltb, nat_le, int_le, codes, option_and_then, unwrap_or, negsuc}
 use Rattle.conf_laws.proofs.Numbers.{whole_there, lowest_end, highest_end, ReadSo, read_so, some_size, natural_is_in, alignment_or, needed_natural}
-use Rattle.conf_laws.proofs.Properties.{IsWithin, AreWithin, object_within, entry_within, optional_within, all_within, fitting_parts, flaws_in, names_of, sorted_names, names_counted, MapPlace, is_map, OwnPlace, is_own, is_object}
+use Rattle.conf_laws.proofs.Properties.{IsWithin, AreWithin, object_within, entry_within, optional_within, all_within, fitting_parts, flaws_in, names_of, sorted_names, names_counted, OwnPlace, is_own, is_object}
 use Rattle.conf_laws.proofs.Readings.{Says, proved_says, under_no_test, all_joined, same_natural, word_there, optional_found, by_found, by_test}
 use Rattle.conf_laws.proofs.Sound.{object_read, HasRow, RowsSound, ContentSound, object_sound, content_sound, first_item, first_entry, held_at, needed_sound, optional_sound, rows_sound}
 use Rattle.conf_laws.proofs.Words.{is_alignment, rows_of, Needed, entries_of, Place, At, WholeOrText, Whole, Text, Content, member_flaws, item_flaws, inside, behind, itself_of, form_of, Known, with_taken, key_fits, ranges_fit, key_of, key_by, names_beside, with_names, end_of, range_of, is_inside, inside_of, natural_in, numbers_of, numbers_in, all_numbers, item_content, leaf_of, whole_or_text, fits, here, AllAbove, IsInOrder, whole_of, OutOfRange, both_read, is_passed, name_of, is_reserved, plain_name_of, is_printable, Members, Data, number, array, Items, no_items, item, no_members, member, object, items_len, as_integer, optional, as_natural, string, members_len, nat_tests, and_parts, or_parts, leb-true, nat_list_cmp_total, tied_itself, T_from_true, All-from_recursion, All-weaker, slice_cmp, le_z_yes, list_any, option_map_or, AllByRecursion, bytes_eq, length-map, whole, low, high, ranges_in, labels_in, enumeration, integer, size_of, object_at, properties, LabelsInOrder, lowest, highest, IsRangeOf, IsEnumeration, is_name as is_identifier, unused_keywords, used_keywords, IsConfigName, IsPlainName, IsConfigText, IntType, Mapping, clock_type, clocks_in, clock_types, entry_value, entries_in, environment, natural, word, InByteOrder, IsEnvironmentValue, IsClockType, ClockType, EnvironmentEntry, integer_made as made, integer_align as align_of, default_align, counted_ranges}
@@ -89,18 +89,18 @@ labels_good : (k : Known) (labels : Members) → member_flaws k places.Mappings 
 unfolding key_of key_by key_fits entries_of behind
 labels_good k no_members f h = tt
 labels_good k (member label (array ds) ms) f h =
-    let sound = first_entry k places.Mappings label (At places.Ranges) (array ds) ms (is_map MapPlace.mappings) f in
-    let within = entry_within MapPlace.mappings label (array ds) ms h in
+    let sound = first_entry k places.Mappings label (At places.Ranges) (array ds) ms (_, refl, refl, refl) f in
+    let within = entry_within places.Mappings (At places.Ranges) (_, refl, refl, refl) label (array ds) ms h in
     all_joined (IsGoodMapping k) (ranges_in label ds) (labels_in ms) (ranges_good k label (names_beside places.Ranges) 0 ds (config_text label (is_passed _ tt tt _ sound.0.named).0 within.1) sound.0.value.inner) (labels_good k ms sound.1 within.2)
-labels_good k (member label d ms) f h = labels_good k ms (first_entry k places.Mappings label (At places.Ranges) d ms (is_map MapPlace.mappings) f).1 (entry_within MapPlace.mappings label d ms h).2
+labels_good k (member label d ms) f h = labels_good k ms (first_entry k places.Mappings label (At places.Ranges) d ms (_, refl, refl, refl) f).1 (entry_within places.Mappings (At places.Ranges) (_, refl, refl, refl) label d ms h).2
 
 -- ---- how many there are
 
 some_range : (k : Known) (labels : Members) → itself_of k (At places.Mappings) (object labels) ≡ Ok tt → member_flaws k places.Mappings labels ≡ [] → 0 < length (labels_in labels)
-unfolding itself_of form_of
+unfolding itself_of form_of entries_of
 some_range k no_members some f = absurd cc
 some_range k (member label (array (item d ds)) ms) some f = omega arith
-some_range k (member label d ms) some f = absurd (let e = (first_entry k places.Mappings label (At places.Ranges) d ms (is_map MapPlace.mappings) f).0.value.itself in cc)
+some_range k (member label d ms) some f = absurd (let e = (first_entry k places.Mappings label (At places.Ranges) d ms (_, refl, refl, refl) f).0.value.itself in cc)
 
 ranges_counted : (label : List ℕ) (ds : Items) → length (ranges_in label ds) ≡ items_len ds
 ranges_counted label no_items = refl
@@ -246,8 +246,8 @@ entries_under : (k : Known) (ms : Members) → member_flaws k places.Environment
 unfolding key_of key_by entries_of behind
 entries_under k no_members f h = none_under entry_name IsEntry
 entries_under k (member name d ms) f h =
-    let sound = first_entry k places.Environment name entry_content d ms (is_map MapPlace.environment) f in
-    let within = entry_within MapPlace.environment name d ms h in
+    let sound = first_entry k places.Environment name entry_content d ms (_, refl, refl, refl) f in
+    let within = entry_within places.Environment entry_content (_, refl, refl, refl) name d ms h in
     one_under entry_name IsEntry name (names_of ms) (record { name = name; value = entry_value d }) (entries_in ms) refl (plain_name name sound.0.named, value_allowed k d sound.0.value within.0) (entries_under k ms sound.1 within.2)
 
 abbrev pub IsEnvironment : List EnvironmentEntry → Type 0
@@ -283,8 +283,8 @@ clocks_under : (k : Known) (ms : Members) → member_flaws k places.ClockTypes m
 unfolding key_of key_by entries_of clock_type behind inside
 clocks_under k no_members f h = none_under clock_name IsClockType
 clocks_under k (member name d ms) f h =
-    let sound = first_entry k places.ClockTypes name (At places.ClockType) d ms (is_map MapPlace.clock_types) f in
-    let within = entry_within MapPlace.clock_types name d ms h in
+    let sound = first_entry k places.ClockTypes name (At places.ClockType) d ms (_, refl, refl, refl) f in
+    let within = entry_within places.ClockTypes (At places.ClockType) (_, refl, refl, refl) name d ms h in
     let (inner, same, rows) = held_at k places.ClockType d (is_object OwnPlace.clock_type) sound.0.value in
     let good = object_within places.ClockType places.ClockType inner ((is_own OwnPlace.clock_type).own inner) (subst (λ x. IsWithin (At places.ClockType) x) same within.0) in
     let one : IsClockType (clock_type name inner) = record { name = plain_name name sound.0.named; description = λ text is. description_allowed k inner text rows.flaws good is; frequency = frequency_positive k inner rows.flaws } in

@@ -7,7 +7,7 @@ use Rattle.conf_laws.proofs.Numbers.{needed_natural}
 use Rattle.conf_laws.proofs.Properties.{IsWithin, AreWithin, object_within, property_within}
 use Rattle.conf_laws.proofs.Readings.{Says, element_is, element_bits, in_array, by_element, same_natural}
 use Rattle.conf_laws.proofs.Sound.{RowsSound, ContentSound, object_sound, needed_sound, TypeSound, type_sound, class_place}
-use Rattle.conf_laws.proofs.Words.{rows_of, admits_class, is_class, Place, At, any_object, itself_of, form_of, class_of, Known, inside, at_least_one, elements, times, cond_some, leb-true, natural_in, is_position, is_number, is_static_array, has_bits, Data, object, Members, get_member, false≢true, nat_tests, and_parts, All-from_recursion, same_Some, AllByRecursion, option_map_or, length_of, of_class, field_type, element, natural, TypeHasBits as HasBits, IsNest, elements_of, IsConfigLeaf, chain_of, Int, Enum, Str, Static, FieldType}
+use Rattle.conf_laws.proofs.Words.{rows_of, admits_class, is_class, Place, At, any_object, itself_of, form_of, class_of, Known, inside, at_least_one, elements, times, cond_some, leb-true, natural_in, is_position, is_number, is_static_array, has_bits, Data, object, Members, get_member, false≢true, nat_tests, and_parts, same_Some, AllByRecursion, option_map_or, length_of, of_class, field_type, element, natural, IsNest, elements_of, IsConfigLeaf, chain_of, Int, Enum, Str, Static, FieldType}
 use Rattle.conf_laws.proofs.Words.places
 
 -- its static arrays nest no deeper than these levels, and have n elements in all
@@ -18,15 +18,11 @@ record Nests (levels n : ℕ) (t : FieldType) : Type 0 where
 
 pub record IsAllowed (d : Data) (t : FieldType) : Type 0 where
   pub leaf : IsConfigLeaf (chain_of t).leaf
-  bits : has_bits d ≡ true → AllByRecursion (λ n. 0 < n) (chain_of t).lengths
+  pub bits : has_bits d ≡ true → AllByRecursion (λ n. 0 < n) (chain_of t).lengths
   nests : (levels n : ℕ) → elements levels d ≡ Some n → Nests levels n t
 
-module _ (d : Data) (t : FieldType) (h : IsAllowed d t) where
-  pub bits_allowed : has_bits d ≡ true → HasBits t
-  bits_allowed some = All-from_recursion (λ n. 0 < n) (chain_of t).lengths (h.bits some)
-
-  pub nest_allowed : (n : ℕ) → elements 8 d ≡ Some n → IsNest (chain_of t).lengths
-  nest_allowed n e = let nests = h.nests 8 n e in let size = nests.size in let few = nests.few in record { depth = nests.deep; size = omega (arith, size, few) }
+pub nest_allowed : (d : Data) (t : FieldType) (n : ℕ) → IsAllowed d t → elements 8 d ≡ Some n → IsNest (chain_of t).lengths
+nest_allowed d t n h e = let nests = h.nests 8 n e in let size = nests.size in let few = nests.few in record { depth = nests.deep; size = omega (arith, size, few) }
 
 -- no array
 module _ (ms : Members) (class : Place) (is : class_of ms ≡ Some class) (other : is_static_array class ≡ false) where

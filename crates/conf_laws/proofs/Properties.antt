@@ -1,9 +1,9 @@
 -- What the table says of the properties, objects and maps that are read: each property at its place, with what it holds. And what stands at
 -- the properties of an object, as entries of a map, and as items of a list, where no limit is passed and names are in order.
-use Rattle.std.proofs.Common.{◌≡◌, ◌++◌, ℕ, Bool, true, false, List, [], Some, refl, subst, suc, ◌∷◌, length, Less, nat_cmp, ap, ◌&&◌, Option, sym, pos, option_and_then, unwrap_or, nat_le, le-leb, arith, codes, negsuc}
+use Rattle.std.proofs.Common.{◌≡◌, ◌++◌, ℕ, Bool, true, false, List, [], Some, refl, subst, suc, ◌∷◌, length, Less, nat_cmp, ap, ◌&&◌, Option, sym, option_and_then, unwrap_or, nat_le, le-leb, arith}
 use Rattle.conf_laws.proofs.Readings.{at_found, by_found}
-use Rattle.conf_laws.proofs.Sound.{first_none, optional_there, optional_sound, HasRow, row_leads, IsMapOf, IsObject, held_at}
-use Rattle.conf_laws.proofs.Words.{Presence, content_under, entries_of, presence_under, Place, At, Content, rows_of, WholeOrText, Entries, told_by, member_flaws, itself_of, Known, inside, within_limit, fits, inner_limits, member_limits, key_fits, content_limits, item_limits, place_fits, arrays_fit, at_most, count_of, ranges_fit, item_content, place_of_properties, resolved_content, is_left_out, form_of, is_position, own_place, Flaw, key, within, index, AllAbove, IsInOrder, Ascends, MembersAscend, ItemsAscend, optional, Data, Members, member, Items, item, no_members, array, object, members_len, get_member, as_object, and_parts, and-false, bytes_eq, option_map_or, slice_cmp, IsStrictlySortedBy, AllByRecursion, object_at, properties, InByteOrder}
+use Rattle.conf_laws.proofs.Sound.{first_none, optional_there, optional_sound, HasRow, row_leads, IsMapOf, map_leads, IsObject, held_at}
+use Rattle.conf_laws.proofs.Words.{Presence, content_under, entries_of, Place, At, Content, Entries, told_by, member_flaws, itself_of, Known, inside, within_limit, fits, inner_limits, member_limits, key_fits, content_limits, item_limits, place_fits, arrays_fit, at_most, count_of, ranges_fit, item_content, place_of_properties, form_of, is_position, own_place, Flaw, key, within, index, AllAbove, IsInOrder, Ascends, MembersAscend, ItemsAscend, optional, Data, Members, member, Items, item, no_members, object, members_len, get_member, as_object, and_parts, option_map_or, slice_cmp, IsStrictlySortedBy, AllByRecursion, object_at, properties, InByteOrder}
 use Rattle.conf_laws.proofs.Words.contents
 use Rattle.conf_laws.proofs.Words.places
 
@@ -45,20 +45,6 @@ pub type_object : IsObject places.TraceType
 unfolding itself_of form_of place_of_properties is_position own_place
 type_object = record { form = λ k d. refl; own = λ ms. refl }
 
--- a map, and what each of its entries holds
-pub data MapPlace : Place → Content → Type 0 where
-  environment : MapPlace places.Environment (WholeOrText (negsuc 9223372036854775807) (pos 9223372036854775807) 4096)
-  clock_types : MapPlace places.ClockTypes (At places.ClockType)
-  stream_types : MapPlace places.StreamTypes (At places.StreamType)
-  event_types : MapPlace places.EventTypes (At places.EventType)
-  mappings : MapPlace places.Mappings (At places.Ranges)
-  entry : MapPlace places.Entry (At places.Member)
-
-pub is_map : {place : Place} {content : Content} → MapPlace place content → IsMapOf place content
-unfolding resolved_content content_under presence_under entries_of rows_of is_left_out
-is_map MapPlace.environment = record { under = λ name. refl; resolved = λ name. rw (and-false (bytes_eq name (codes "$inherit"))) refl; stays = λ name d. refl }
-is_map _ = record { under = λ name. refl; resolved = λ name. rw (and-false (bytes_eq name (codes "$inherit"))) refl; stays = λ name d. refl }
-
 -- ---- no limit is passed, and names are in order
 
 pub fits_there : (b : Bool) (xs : List Flaw) → told_by (within_limit b) ++ xs ≡ [] → (b ≡ true) × (xs ≡ [])
@@ -88,9 +74,6 @@ pub record AreItemsWithin (place : Place) (i : ℕ) (ds : Items) : Type 0 where
 pub object_within : (place own : Place) (ms : Members) → place_of_properties place ms ≡ own → IsWithin (At place) (object ms) → AreWithin own ms
 object_within place own ms is h = record { limits = subst (λ p. member_limits p ms ≡ []) is h.inner; in_order = h.ascends.0; ascend = h.ascends.1 }
 
-pub list_within : (place : Place) (ds : Items) → IsWithin (At place) (array ds) → AreItemsWithin place 0 ds
-list_within place ds h = record { limits = h.inner; ascend = h.ascends }
-
 -- the limits that a property passes, seen from its value
 abbrev pub limits_at : Place → List ℕ → Data → List Flaw
 limits_at place name d = told_by (within_limit (key_fits place name)) ++ (told_by (within_limit (fits (unwrap_or (content_under place name) contents.Anything) d)) ++ inner_limits (unwrap_or (content_under place name) contents.Anything) d)
@@ -117,10 +100,10 @@ pub optional_within : (place : Place) (name : List ℕ) {presence : Presence} (c
 optional_within place name content row ms d h there = property_within place name content row ms d h (optional_there name ms d there).0
 
 -- the first entry of a map, and those behind it
-pub entry_within : {place : Place} {content : Content} → MapPlace place content → (name : List ℕ) (d : Data) (ms : Members) → AreWithin place (member name d ms) → IsWithin content d × (key_fits place name ≡ true) × AreWithin place ms
-entry_within {place = place} {content = content} map name d ms h =
+pub entry_within : (place : Place) (content : Content) → IsMapOf place content → (name : List ℕ) (d : Data) (ms : Members) → AreWithin place (member name d ms) → IsWithin content d × (key_fits place name ≡ true) × AreWithin place ms
+entry_within place content map name d ms h =
     let first = first_limits place name d ms h.limits in
-    (value_within place name content d ((is_map map).under name) first.0 h.ascend.0, (fits_there (key_fits place name) _ first.0).0, record { limits = first.1; in_order = h.in_order.1; ascend = h.ascend.1 })
+    (value_within place name content d (map_leads place name content map) first.0 h.ascend.0, (fits_there (key_fits place name) _ first.0).0, record { limits = first.1; in_order = h.in_order.1; ascend = h.ascend.1 })
 
 -- the first item of a list, and those behind it
 pub item_within : (place : Place) (i : ℕ) (d : Data) (ds : Items) → AreItemsWithin place i (item d ds) → IsWithin (item_content place) d × AreItemsWithin place (suc i) ds

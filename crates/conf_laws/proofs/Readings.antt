@@ -84,18 +84,12 @@ pub under_no_test : {A : Type 0} (b : Bool) (x y : A) (flaw : Flaw) → cond b (
 under_no_test true x y flaw e = absurd cc
 under_no_test false x y flaw e = refl
 
-given_itself : (d : Data) → is_null d ≡ false → given (Some d) ≡ Some d
-given_itself null e = absurd cc
-given_itself _ e = refl
-
 -- what is there and is not null
 pub optional_found : (name : List ℕ) (ms : Members) (d : Data) → get_member name ms ≡ Some d → is_null d ≡ false → optional name ms ≡ Some d
-optional_found name ms d found some = ap given found ∙ given_itself d some
+optional_found name ms null found some = absurd cc
+optional_found name ms d found some = ap given found
 
 -- ---- what is at a name
-
-pub same_name : (a b : List ℕ) → slice_cmp nat_cmp a b ≡ Equal → a ≡ b
-same_name a b e = (bytes_eq-Decides a b).0 (sym (is_eq-slice_cmp a b) ∙ ap is_eq e)
 
 -- the first member of a name is found, and another one is passed over
 found_here : (name k : List ℕ) (d : Data) (ms : Members) → get_member name (member k d ms) ≡ cond (bytes_eq k name) (Some d) (get_member name ms)
@@ -105,7 +99,7 @@ found_here name k d ms = by_test (λ (b : Bool). get_member name (member k d ms)
   where
     go : bytes_eq k name ≡ false → (o : Ordering) → slice_cmp nat_cmp name k ≡ o → match_ordering o (get_member name ms) (Some d) (get_member name ms) ≡ get_member name ms
     go other Less c = refl
-    go other Equal c = absurd (false≢true (sym other ∙ (bytes_eq-Decides k name).1 (sym (same_name name k c))))
+    go other Equal c = absurd (false≢true (sym other ∙ (bytes_eq-Decides k name).1 (sym ((bytes_eq-Decides name k).0 (sym (is_eq-slice_cmp name k) ∙ ap is_eq c)))))
     go other Greater c = refl
 
 -- what is computed from the first property of a name, and else from none

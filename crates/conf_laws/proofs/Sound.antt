@@ -2,7 +2,7 @@
 -- property that is there is what its row asks for.
 use Rattle.std.proofs.Common.{codes, unwrap_or, arith, ◌≡◌, ◌++◌, ℕ, Bool, true, false, cond, List, [], ◌∷◌, map, Option, Some, None, Result, Ok, Err, refl, sym, subst, ◌∙◌, suc, option_map, option_and_then, ap}
 use Rattle.conf_laws.proofs.Readings.{at_found, optional_found, by_found, by_test}
-use Rattle.conf_laws.proofs.Words.{wanted, entries_of, class_words, class_in, admits_class, presence_under, Told, rows_of, row_in, content_under, Place, At, Content, Needed, Presence, class_named, class_of, class_said, told_by, class_rule, all_there, resolved_content, is_left_out, left_out, is_needed, is_null, property_flaws, inner_flaws, member_flaws, content_flaws, item_flaws, rows_there, row_there, orders_there, admitted, other_class, itself_of, any_object, Known, inside, behind, with_taken, key_of, with_names, place_of_properties, item_content, is_position, own_place, shape_of, Flaw, key, within, index, here, optional, given, ◌>>=◌, at, needed, text_of, wanted_found, found_there, both_read, read_there, is_passed, Data, null, object, Members, member, Items, item, get_member, as_object, as_str, nat_tests, bytes_eq-Decides, bytes_eq, object_at as object_in, ⊤}
+use Rattle.conf_laws.proofs.Words.{Entries, is_by_index, and-false, wanted, entries_of, class_words, class_in, admits_class, presence_under, Told, rows_of, row_in, content_under, Place, At, Content, Needed, Presence, class_named, class_of, class_said, told_by, class_rule, all_there, resolved_content, is_left_out, left_out, is_needed, is_null, property_flaws, inner_flaws, member_flaws, content_flaws, item_flaws, rows_there, row_there, orders_there, admitted, other_class, itself_of, any_object, Known, inside, behind, with_taken, key_of, with_names, place_of_properties, item_content, is_position, own_place, shape_of, Flaw, key, within, index, here, optional, given, ◌>>=◌, at, needed, text_of, wanted_found, found_there, both_read, read_there, is_passed, Data, null, object, Members, member, Items, item, get_member, as_object, as_str, nat_tests, bytes_eq-Decides, bytes_eq, object_at as object_in, ⊤}
 use Rattle.conf_laws.proofs.Words.places
 use Rattle.conf_laws.proofs.Words.contents
 
@@ -151,16 +151,34 @@ needed_sound k place name content ms row h =
 
 -- ---- the entries of a map
 
--- each entry of a map is such, and none is left out
-pub record IsMapOf (place : Place) (content : Content) : Type 0 where
-  pub under : (name : List ℕ) → content_under place name ≡ Some content
-  pub resolved : (name : List ℕ) → resolved_content place name ≡ Some content
-  pub stays : (name : List ℕ) (d : Data) → is_left_out place name d ≡ false
+-- a place is a map, whose entries are such under any name
+abbrev pub IsMapOf : Place → Content → Type 0
+IsMapOf place content = (entries : Entries) × (entries_of place ≡ Some entries) × (is_by_index entries.keys ≡ false) × (entries.content ≡ content)
+
+-- a map has no rows
+pub no_rows : (place : Place) (name : List ℕ) (entries : Entries) → entries_of place ≡ Some entries → presence_under place name ≡ None
+unfolding entries_of presence_under rows_of
+no_rows places.Environment name entries is = refl
+no_rows _ name entries is = cc
+
+entries_lead : (place : Place) (name : List ℕ) (entries : Entries) → entries_of place ≡ Some entries → is_by_index entries.keys ≡ false → content_under place name ≡ Some entries.content
+unfolding content_under entries_of rows_of
+entries_lead places.Environment name entries is named = ap (option_map (λ (e : Entries). e.content)) is
+entries_lead _ name entries is named =
+    let content = ap (option_map (λ (e : Entries). e.content)) is in
+    let keys = ap (option_map (λ (e : Entries). is_by_index e.keys)) is in
+    cc
+
+pub map_leads : (place : Place) (name : List ℕ) (content : Content) → IsMapOf place content → content_under place name ≡ Some content
+map_leads place name content (entries, is, named, same) = entries_lead place name entries is named ∙ ap Some same
 
 pub first_entry : (k : Known) (place : Place) (name : List ℕ) (content : Content) (d : Data) (ms : Members) → IsMapOf place content → member_flaws k place (member name d ms) ≡ []
     → PropertySound k place name content d × (member_flaws (behind place d k) place ms ≡ [])
-first_entry k place name content d ms is e =
-    let both = first_flaws k place name d ms e in (property_here k place name content d (is.resolved name) (is.stays name d) both.0, both.1)
+unfolding resolved_content is_left_out
+first_entry k place name content d ms map e =
+    let both = first_flaws k place name d ms e in
+    let resolved : resolved_content place name ≡ Some content = rw (no_rows place (codes "$inherit") map.0 map.1, and-false (bytes_eq name (codes "$inherit"))) (map_leads place name content map) in
+    (property_here k place name content d resolved (ap (λ o. left_out o d) (no_rows place name map.0 map.1)) both.0, both.1)
 
 admitted_class : (place : Place) (o : Option Place) → admitted place o ≡ Ok tt → (class : Place) × (o ≡ Some class) × (admits_class place class ≡ true)
 admitted_class place None e = absurd cc

@@ -1,14 +1,14 @@
 -- The members of a structure, structures and the extra members of a packet context that have no flaw say something; and where they pass no
 -- limit, that is what the rules allow. The names that members take are apart, and apart from names that were taken before.
-use Rattle.std.proofs.Common.{◌≡◌, ◌%◌, ◌==◌, ◌&&◌, ℕ, nat_eq, Bool, true, false, cond, Some, nat_lt, nat_le, leb-true, arith, refl, sym, ap, subst, Option, Ok, ◌∙◌, ◌+◌, ◌||◌, List, [], ◌∷◌, ◌++◌, length, All, length-append, append_assoc, ◌⊎◌, suc, inl, inr, codes, unwrap_or, option_and_then}
+use Rattle.std.proofs.Common.{◌<◌, ◌≡◌, ◌%◌, ◌==◌, ◌&&◌, ℕ, nat_eq, Bool, true, false, cond, Some, nat_lt, nat_le, leb-true, arith, refl, sym, ap, subst, Option, Ok, ◌∙◌, ◌+◌, ◌||◌, List, [], ◌∷◌, ◌++◌, length, All, length-append, append_assoc, ◌⊎◌, suc, inl, inr, codes, unwrap_or, option_and_then}
 use Rattle.conf_laws.proofs.Agreement.{taken_put}
 use Rattle.conf_laws.proofs.AllowedMaps.{plain_name}
-use Rattle.conf_laws.proofs.FieldTypes.{bits_allowed, nest_allowed, type_says}
+use Rattle.conf_laws.proofs.FieldTypes.{nest_allowed, type_says}
 use Rattle.conf_laws.proofs.Numbers.{alignment_or}
-use Rattle.conf_laws.proofs.Properties.{IsWithin, AreWithin, AreItemsWithin, object_within, list_within, property_within, optional_within, entry_within, item_within, fitting_parts, MapPlace, is_map, OwnPlace, is_own}
+use Rattle.conf_laws.proofs.Properties.{IsWithin, AreWithin, AreItemsWithin, object_within, property_within, optional_within, entry_within, item_within, fitting_parts, OwnPlace, is_own}
 use Rattle.conf_laws.proofs.Readings.{Says, proved_says, element_is, all_joined, under_no_test, optional_found, some_there, by_found, by_test}
 use Rattle.conf_laws.proofs.Sound.{HasRow, RowsSound, ContentSound, ObjectSound, object_sound, needed_sound, type_sound, class_place, object_at, content_sound, first_item, rows_sound, first_entry, optional_sound}
-use Rattle.conf_laws.proofs.Words.{and_parts, is_alignment, rows_of, Presence, admits_class, is_dynamic_array, Place, At, entries_of, at_most, itself_of, form_of, Known, inside, is_position, inner_flaws, item_flaws, member_flaws, nothing, with_taken, take, is_taken, key_of, key_by, free_of, is_dynamic, class_of, class_of_member, elements, fits, arrays_fit, is_outermost, shape_of, with_names, names_beside, own_place, place_of_properties, item_content, Members, Data, object, get_member, optional, here, WrongKind, is_passed, members_len, items_len, both_read, plain_name_of, Items, no_items, item, no_members, member, array, as_array, as_object, eqb-true, false≢true, or_parts, All-push, All-nil, All-from_recursion, map-append, bytes_eq-Decides, IsDistinct, option_map_or, AllByRecursion, list_any, bytes_eq, field_type, element, object_at as object_named, list as list_in, member_type, member_said as member_of, behind_done, members_behind, made, align_for, listed, align_of, structure_of, structure, extra_members, names_in, own_names, IsPlainName, IsConfigMember, AreConfigMembers, IsConfigStruct, StructType, length_name, shown_members, Auto, AtMember, Plain, Dyn, MemberType}
+use Rattle.conf_laws.proofs.Words.{chain_of, and_parts, is_alignment, rows_of, Presence, admits_class, is_dynamic_array, Place, At, entries_of, at_most, itself_of, form_of, Known, inside, is_position, inner_flaws, item_flaws, member_flaws, nothing, with_taken, take, is_taken, key_of, key_by, free_of, is_dynamic, class_of, class_of_member, elements, fits, arrays_fit, is_outermost, shape_of, with_names, names_beside, own_place, place_of_properties, item_content, Members, Data, object, get_member, optional, here, WrongKind, is_passed, members_len, items_len, both_read, plain_name_of, Items, no_items, item, no_members, member, array, as_array, as_object, eqb-true, false≢true, or_parts, All-push, All-nil, All-from_recursion, map-append, bytes_eq-Decides, IsDistinct, option_map_or, AllByRecursion, list_any, bytes_eq, field_type, element, object_at as object_named, list as list_in, member_type, member_said as member_of, behind_done, members_behind, made, align_for, listed, align_of, structure_of, structure, extra_members, names_in, own_names, IsPlainName, IsConfigMember, AreConfigMembers, IsConfigStruct, StructType, length_name, shown_members, Auto, AtMember, Plain, Dyn, MemberType}
 use Rattle.conf_laws.proofs.Words.places
 
 -- ---- what a member takes
@@ -143,7 +143,7 @@ elements_say k ms h =
     let good = property_within places.DynamicArray (codes "element-field-type") (At places.DynamicElementType) (refl, refl) ms (object os) h found in
     let nests = some_there (elements 8 (object os)) (fitting_parts places.DynamicElementType (object os) good.fitting).0 in
     let one = x.2 good in
-    ((one.leaf, nest_allowed (object os) x.0 one nests.0 nests.1), bits_allowed (object os) x.0 one (is_passed _ tt tt _ t.shape).0) in
+    ((one.leaf, nest_allowed (object os) x.0 nests.0 one nests.1), All-from_recursion (λ n. 0 < n) (chain_of x.0).lengths (one.bits (is_passed _ tt tt _ t.shape).0)) in
     (x.0, element_is ms ∙ ap (option_and_then field_type) found ∙ x.1, allowed)
 
 member_class : (class : Place) → admits_class places.MemberType class ≡ true → (class ≡ places.DynamicArray) ⊎ ((is_dynamic_array class ≡ false) × (admits_class places.ElementType class ≡ true))
@@ -165,7 +165,7 @@ member_says k ms h =
       | inr other ↦
           let plain : option_map_or is_dynamic_array (class_of ms) false ≡ false = ap (λ o. option_map_or is_dynamic_array o false) t.is ∙ other.0 in
           let x = type_says k places.MemberType ms refl t other.1 in
-          (Plain x.0, rw (plain, x.1) refl, ((λ name. ap (λ b. names_by b name) plain), λ good. let nests = some_there (elements 8 (object ms)) (fitting_parts places.MemberType (object ms) good.fitting).0 in let allowed = x.2 good in (allowed.leaf, nest_allowed (object ms) x.0 allowed nests.0 nests.1)))
+          (Plain x.0, rw (plain, x.1) refl, ((λ name. ap (λ b. names_by b name) plain), λ good. let nests = some_there (elements 8 (object ms)) (fitting_parts places.MemberType (object ms) good.fitting).0 in let allowed = x.2 good in (allowed.leaf, nest_allowed (object ms) x.0 nests.0 allowed nests.1)))
     ]
 
 -- what the value of an entry tells of
@@ -214,7 +214,7 @@ module _ (k : Known) (place : Place) (before : List (List ℕ)) (entries : item_
       let name = s.0 in
       let ms = member name s.1 no_members in
       let rows = rows_sound j places.Entry places.Entry ms refl (object_sound j places.Entry ms (subst (λ x. inner_flaws j (At places.Entry) x ≡ []) s.2 sound.inner)) in
-      let entry = (first_entry j places.Entry name (At places.Member) s.1 no_members (is_map MapPlace.entry) rows.flaws).0 in
+      let entry = (first_entry j places.Entry name (At places.Member) s.1 no_members (_, refl, refl, refl) rows.flaws).0 in
       let m = told_says j s.1 entry.value in
       let judged = both_read (plain_name_of name) _ tt entry.named in
       let own = or_parts (is_taken taken name) (is_dynamic s.1 && is_taken taken (length_name name)) (under_no_test _ tt tt _ judged.2) in
@@ -228,7 +228,7 @@ module _ (k : Known) (place : Place) (before : List (List ℕ)) (entries : item_
       let types : All (λ (n : List ℕ × MemberType). IsConfigMember n.1) done → AreItemsWithin place i (item d ds) → All (λ (n : List ℕ × MemberType). IsConfigMember n.1) rest.0 = λ all good.
       let items = item_within place i d ds good in
       let first = subst (λ x. IsWithin (At places.Entry) x) s.2 (subst (λ c. IsWithin c d) entries items.0) in
-      let value = (entry_within MapPlace.entry name s.1 no_members (object_within places.Entry places.Entry ms ((is_own OwnPlace.entry).own ms) first)).0 in
+      let value = (entry_within places.Entry (At places.Member) (_, refl, refl, refl) name s.1 no_members (object_within places.Entry places.Entry ms ((is_own OwnPlace.entry).own ms) first)).0 in
       rest.2.types (All-push (λ (n : List ℕ × MemberType). IsConfigMember n.1) done (name, m.0) all (m.2.1 value)) items.1 in
       let read : AreRead place before i done (item d ds) rest.0 = record { after = rest.2.after; named = rest.2.named; counted = omega (arith, counted, length-append done ((name, m.0) ∷ [])); types = types } in
       (rest.0, ap (λ x. members_behind done (item x ds)) s.2 ∙ step ∙ rest.1, read)
@@ -258,7 +258,7 @@ module _ (k : Known) (around : Place) {place : Place} (name : List ℕ) {presenc
       let allowed : AreWithin around ms → AreConfigMembers all.0 = λ h.
       let good = subst (λ x. IsWithin (At place) x) s.1 (optional_within around name (At place) row ms d h is) in
       let short = leb-true (items_len s.0) 256 (sym (most (items_len s.0)) ∙ (fitting_parts place (array s.0) good.fitting).1) in
-      record { types = all.2.types (All-nil (λ m. IsConfigMember m.1)) (list_within place s.0 good); names = named.names; distinct = named.shown.distinct; few = omega (arith, counted, short) } in
+      record { types = all.2.types (All-nil (λ m. IsConfigMember m.1)) (record { limits = good.inner; ascend = good.ascends }); names = named.names; distinct = named.shown.distinct; few = omega (arith, counted, short) } in
       subst (λ x. Says (members_behind [] (unwrap_or (as_array x) no_items)) IsListed) (sym s.1) (all.0, all.1, (named.shown.free, allowed))
 
   listed_says : Says (listed name ms) IsListed

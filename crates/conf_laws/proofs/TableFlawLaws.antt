@@ -4,9 +4,9 @@ use Rattle.std.proofs.Common.{codes, ◌≡◌, ◌≢◌, ◌⊎◌, ◌&&◌, 
 use Rattle.conf_laws.proofs.Agreement.{Agrees, IsTrue, nothing_agrees, inside_agrees, behind_agrees, Takes, takes_beside, takes_further, item_agrees, IsFrom, from_start, from_next, item_here}
 use Rattle.conf_laws.proofs.Numbers.{number_told}
 use Rattle.conf_laws.proofs.Readings.{byte_object, some_none, some_same, class_told, only_unsigned, only_static, element_bits, by_element, by_found, by_test}
-use Rattle.conf_laws.proofs.Sound.{ObjectSound, object_sound, ContentSound, content_sound, flaws_at, property_here, first_flaws, first_item, optional_there}
+use Rattle.conf_laws.proofs.Sound.{no_rows, ObjectSound, object_sound, ContentSound, content_sound, flaws_at, property_here, first_flaws, first_item, optional_there}
 use Rattle.conf_laws.proofs.ValueFlawLaws.{IsJudged, then_judged, test_judged, none_there, number_there, number_found, class_word, word_excluded, value_judged, name_judged}
-use Rattle.conf_laws.proofs.Words.{both_read, refused_test, refused_here_or_next, IsTaken, is_taken, HasNumber, Around, Parts, HasBehind, member_of, item_of, IsPropertyOf, IsLeftOut, IsNoClassAt, HasNotItsRows, IsByte, IsIdentifier, HasNoBits, IsNoShapeAt, IsFlawOf, IsNoValueOf, IsNoNameAt, words_of_classes, class_words, class_in, admits_class, content_under, presence_under, Told, rows_of, entries_of, Place, At, Content, Presence, Entries, class_named, class_of, class_said, other_class, may_inherit, resolved_content, is_needed, left_out, is_left_out, admitted, class_rule, row_there, rows_there, orders_there, all_there, told_by, property_flaws, inner_flaws, item_flaws, member_flaws, content_flaws, configuration_flaws, itself_of, Known, nothing, inside, behind, with_taken, key_of, names_beside, with_names, natural_in, is_position, place_of_properties, item_content, is_number, is_unsigned_integer, is_static_array, is_eight, is_byte, is_identifier, has_bits, element_has_bits, shape_of, Flaw, key, here, within, index, ◌>>=◌, at, wanted, needed, optional, given, text_of, HasMember, refusal, WrongKind, OutOfRange, Missing, Unknown, refused_where, lacks_refused, found_there, IsNoWordOf, as_natural, Data, null, object, Members, array, Items, no_items, item, no_members, member, get_member, get_item, as_str, nat_tests, true≢false, false≢true, and-false, and_parts, and_from, and_cases, or_parts, eq-eqb, All-nil, All-cons, All-map, All-append, All-weaker, All-contains, bytes_eq-Decides, All, option_map_or, bytes_eq, ⊤}
+use Rattle.conf_laws.proofs.Words.{both_read, refused_test, refused_here_or_next, IsTaken, is_taken, HasNumber, Around, Parts, HasBehind, member_of, item_of, IsPropertyOf, IsLeftOut, IsNoClassAt, HasNotItsRows, IsByte, IsIdentifier, HasNoBits, IsNoShapeAt, IsFlawOf, IsNoValueOf, IsNoNameAt, words_of_classes, class_words, class_in, admits_class, content_under, presence_under, Told, rows_of, Place, At, Content, Presence, class_named, class_of, class_said, other_class, may_inherit, resolved_content, is_needed, left_out, is_left_out, admitted, class_rule, row_there, rows_there, orders_there, all_there, told_by, property_flaws, inner_flaws, item_flaws, member_flaws, content_flaws, configuration_flaws, itself_of, Known, nothing, inside, behind, with_taken, key_of, names_beside, with_names, natural_in, is_position, place_of_properties, item_content, is_number, is_unsigned_integer, is_static_array, is_eight, is_byte, is_identifier, has_bits, element_has_bits, shape_of, Flaw, key, here, within, index, ◌>>=◌, at, wanted, needed, optional, given, text_of, HasMember, refusal, WrongKind, OutOfRange, Missing, Unknown, refused_where, lacks_refused, found_there, IsNoWordOf, as_natural, Data, null, object, Members, array, Items, no_items, item, no_members, member, get_member, get_item, as_str, nat_tests, true≢false, false≢true, and-false, and_parts, and_from, and_cases, or_parts, eq-eqb, All-nil, All-cons, All-map, All-append, All-weaker, All-contains, bytes_eq-Decides, All, option_map_or, bytes_eq, ⊤}
 use Rattle.conf_laws.proofs.Words.places
 use Rattle.conf_laws.proofs.Words.contents
 use Rattle.conf_laws.proofs.Words.presences
@@ -318,12 +318,6 @@ module _ (k : Known) (around : Around) (h : Agrees k around) (place : Place) (ms
 known_there : (k : Known) (place : Place) (name : List ℕ) (d : Data) → flaws_at k place name d ≡ [] → (content : Content) × (resolved_content place name ≡ Some content)
 known_there k place name d e =
     by_found (λ (o : Option Content). property_flaws k place name o d (inner_flaws k (unwrap_or o contents.Anything) d) ≡ [] → (content : Content) × (o ≡ Some content)) (resolved_content place name) (λ none f. absurd cc) (λ content is f. (content, refl)) e
-
--- a map has no rows
-no_rows : (place : Place) (name : List ℕ) (entries : Entries) → entries_of place ≡ Some entries → presence_under place name ≡ None
-unfolding entries_of presence_under rows_of
-no_rows places.Environment name entries is = refl
-no_rows _ name entries is = cc
 
 none_of : (around : Around) (content : Content) (d : Data) (flaw : Flaw) → IsFlawOf around content d flaw → (k : Known) → Agrees k around → ¬ ContentSound k content d
 unfolding is_left_out all_there orders_there

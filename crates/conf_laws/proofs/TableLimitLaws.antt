@@ -17,12 +17,6 @@ some_count : (o : Option ℕ) → (n : ℕ) × (at_least_one o ≡ Some n) × (1
 some_count None = (1, refl, omega arith)
 some_count (Some n) = (cond (nat_eq n 0) 1 n, refl, grind (arith, nat_tests))
 
-abbrev IsTooDeep : ℕ → Data → Type 0
-IsTooDeep levels d = (ns : List ℕ) × Nest d ns × (levels < length ns)
-
-abbrev AreTooMany : Data → Type 0
-AreTooMany d = (ms : Members) × (element : Data) × (ns : List ℕ) × (d ≡ object ms) × HasElement ms element × Nest d ns × (1048576 < product ns)
-
 -- these stand in one another, with so many elements in all, and no more do
 record Counted (levels : ℕ) (d : Data) (m : ℕ) : Type 0 where
   nest : (ns : List ℕ) × Nest d ns × (product ns ≡ m)
@@ -30,9 +24,9 @@ record Counted (levels : ℕ) (d : Data) (m : ℕ) : Type 0 where
   most : (e : Data) (ns : List ℕ) → Nest e ns → e ≡ d → (product ns ≤ m) × (length ns ≤ levels)
   few : (ms : Members) (element : Data) → d ≡ object ms → HasElement ms element → m ≤ 1048576
 
--- what is not counted is too much
+-- what is not counted is too deep, or too many
 abbrev Measured : ℕ → Data → Option ℕ → Type 0
-Measured levels d None = IsTooDeep levels d ⊎ AreTooMany d
+Measured levels d None = ((ns : List ℕ) × Nest d ns × (levels < length ns)) ⊎ ((ms : Members) × (element : Data) × (ns : List ℕ) × (d ≡ object ms) × HasElement ms element × Nest d ns × (1048576 < product ns))
 Measured levels d (Some m) = Counted levels d m
 
 single : (levels : ℕ) (d : Data) → ((ms : Members) (n : ℕ) → d ≡ object ms → ¬ IsArray ms n) → Counted levels d 1

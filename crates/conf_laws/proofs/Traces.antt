@@ -4,9 +4,9 @@ use Rattle.std.proofs.Common.{◌≡◌, ℕ, ◌&&◌, Bool, true, false, cond,
 use Rattle.conf_laws.proofs.AllowedMaps.{IsMade, integer_says, config_name, AreAllowed, AreUnder, none_under, one_under, map_allowed, AreClocks, clocks_allowed, IsEnvironment, environment_allowed}
 use Rattle.conf_laws.proofs.Structures.{AreExtras, structure_says, extras_says}
 use Rattle.conf_laws.proofs.Numbers.{number_told, natural_is_in}
-use Rattle.conf_laws.proofs.Properties.{IsWithin, AreWithin, is_within, object_within, optional_within, entry_within, all_within, flaws_in, names_of, OwnPlace, is_object, is_own, MapPlace, is_map, type_object}
+use Rattle.conf_laws.proofs.Properties.{IsWithin, AreWithin, is_within, object_within, optional_within, entry_within, all_within, flaws_in, names_of, OwnPlace, is_object, is_own, type_object}
 use Rattle.conf_laws.proofs.Readings.{byte_object, Says, some_same, mapped_says, same_natural, class_told, only_unsigned, only_static, object_there, optional_found, by_found}
-use Rattle.conf_laws.proofs.Sound.{TypeSound, type_sound, HasRow, RowsSound, needed_sound, optional_sound, ObjectSound, ContentSound, object_sound, content_sound, held_at, first_entry, needed_object}
+use Rattle.conf_laws.proofs.Sound.{IsMapOf, TypeSound, type_sound, HasRow, RowsSound, needed_sound, optional_sound, ObjectSound, ContentSound, object_sound, content_sound, held_at, first_entry, needed_object}
 use Rattle.conf_laws.proofs.Words.{is_passed, rows_of, Presence, admits_class, Place, At, Level, class_of, Known, inside, behind, nothing, members_or_none, natural_in, is_position, shape_of, is_identifier, is_byte, is_unsigned_integer, is_number, is_eight, at_most, entries_of, key_of, key_by, itself_of, leaf_of, level, whole_from, member_flaws, configuration_flaws, configuration_limits, Ascends, All-map, IsStreamType, IsEventType, IsConfig, IsPlainName, ClockType, Draft, KeepsStreamRules, KeepsRules, RecordHasBits, optional, as_natural, Data, boolean, object, string, Members, no_members, members_len, get_member, member, as_object, here, NoSuchAlias, and_parts, same_Some, append-nil, option_map_or, alignment_of, alignment, number_type, magic_type, byte_type, feature_of, feature, byte_of, identifier, size, mapped, timestamp, header, context, event_header, integer, size_of, default_align, integer_align as align_of, natural, object_at as object_named, properties, said_behind, word, OnlyIf, IsPlainUnsigned, ContextFeatures, EventFeatures, HeaderFeatures, IntType, environment, level_of, event_type, event_types, clock_of, stream_type, stream_types, draft_with, draft_of_type, draft_of_trace, draft_of_root, draft_of, IsConfigStruct, IsConfigName, Config, EnvironmentEntry, EventType, StreamType}
 use Rattle.conf_laws.proofs.Words.places
 
@@ -161,7 +161,7 @@ event_header_says k clock ms f =
 -- ---- maps of types
 
 -- each entry of such a map, an object, is read as a type, which is put behind those that are done
-module _ {A : Type 0} {place inner : Place} (named : A → List ℕ) (good : A → Type 0) (map : MapPlace place (At inner)) (one : OwnPlace true inner) (all : OwnPlace true place) (most : ℕ) (of : Members → List ℕ → Members → Option A)
+module _ {A : Type 0} {place inner : Place} (named : A → List ℕ) (good : A → Type 0) (map : IsMapOf place (At inner)) (one : OwnPlace true inner) (all : OwnPlace true place) (most : ℕ) (of : Members → List ℕ → Members → Option A)
     (bounded : (n : ℕ) → at_most (entries_of place) n ≡ nat_le n most) (keeps : (d : Data) (k : Known) → (behind place d k).levels ≡ k.levels)
     (says : (k : Known) (name : List ℕ) (d : Data) (ms : Members) → key_of k place name d ≡ Ok tt → member_flaws k inner ms ≡ [] → Says (of k.levels name ms) (λ x. (named x ≡ name) × (AreWithin inner ms → good x))) where
   -- from here on, behind those that are done
@@ -169,14 +169,14 @@ module _ {A : Type 0} {place inner : Place} (named : A → List ℕ) (good : A �
       → Says (said_behind (of levels) done ms) (λ xs. (ys : List A) × (done ++ ys ≡ xs) × (AreWithin place ms → AreUnder named good (names_of ms) ys))
   types_say levels k is no_members done f = (done, refl, ([], append-nil done, λ own. none_under named good))
   types_say levels k is (member name d ms) done f =
-      let first = first_entry k place name (At inner) d ms (is_map map) f in
+      let first = first_entry k place name (At inner) d ms map f in
       let (ns, same, rows) = held_at k inner d (is_object one) first.0.value in
       let new = says k name d ns first.0.named (subst (λ j. member_flaws j inner ns ≡ []) ((is_own one).known k ns) rows.flaws) in
       let rest = types_say levels (behind place d k) (keeps d k ∙ is) ms (done ++ new.0 ∷ []) first.1 in
       let x : A = new.0 in
       let ys = rest.2.0 in
       let good_here : AreWithin place (member name d ms) → AreUnder named good (name ∷ names_of ms) (x ∷ ys) = λ own.
-      let within = entry_within map name d ms own in
+      let within = entry_within place (At inner) map name d ms own in
       let inside = object_within inner inner ns ((is_own one).own ns) (subst (λ y. IsWithin (At inner) y) same within.0) in
       one_under named good name (names_of ms) x ys new.2.0 (new.2.1 inside) (rest.2.2 within.2) in
       let said = ap (λ y. said_behind (of levels) done (member name y ms)) same ∙ ap (option_and_then (λ y. said_behind (of levels) (done ++ y ∷ []) ms)) (ap (λ l. of l name ns) (sym is) ∙ new.1) ∙ rest.1 in
@@ -227,7 +227,7 @@ AreGoodEvents es = AreAllowed (λ (e : EventType). e.name) IsGoodEvent 1024 es
 events_say : (k : Known) (ms : Members) → member_flaws k places.StreamType ms ≡ [] → Says (event_types k.levels ms) (λ es. AreWithin places.StreamType ms → AreGoodEvents es)
 unfolding event_types key_of key_by entries_of behind rows_of
 events_say k ms f =
-    map_says (λ (e : EventType). e.name) IsGoodEvent MapPlace.event_types OwnPlace.event_type OwnPlace.event_types 1024 event_type (λ n. refl) (λ d j. refl) (λ j name d own judged flaws. event_says j name own (config_name name judged) flaws)
+    map_says (λ (e : EventType). e.name) IsGoodEvent (_, refl, refl, refl) OwnPlace.event_type OwnPlace.event_types 1024 event_type (λ n. refl) (λ d j. refl) (λ j name d own judged flaws. event_says j name own (config_name name judged) flaws)
     k places.StreamType (codes "event-record-types") (refl, refl) ms k.levels refl f
 
 -- ---- data stream types
@@ -277,7 +277,7 @@ AreGoodStreams ss = AreAllowed (λ (s : StreamType). s.name) IsGoodStream 64 ss
 streams_say : (k : Known) (ms : Members) → k.levels ≡ properties (codes "$log-level-aliases") ms → member_flaws k places.TraceType ms ≡ [] → Says (stream_types ms) (λ ss. AreWithin places.TraceType ms → AreGoodStreams ss)
 unfolding stream_types key_of key_by entries_of behind rows_of
 streams_say k ms levels f =
-    map_says (λ (s : StreamType). s.name) IsGoodStream MapPlace.stream_types OwnPlace.stream_type OwnPlace.stream_types 64 stream_type (λ n. refl) (λ d j. refl) (λ j name d own judged flaws. stream_says j name own (config_name name judged) flaws)
+    map_says (λ (s : StreamType). s.name) IsGoodStream (_, refl, refl, refl) OwnPlace.stream_type OwnPlace.stream_types 64 stream_type (λ n. refl) (λ d j. refl) (λ j name d own judged flaws. stream_says j name own (config_name name judged) flaws)
     k places.TraceType (codes "data-stream-types") (refl, refl) ms (properties (codes "$log-level-aliases") ms) levels f
 
 -- ---- the trace

@@ -26,7 +26,7 @@ pub use Rattle.serde_json.specs.Data.{Data, Items, Members, Num, array, boolean,
 pub use Rattle.serde_json.specs.{Events.{items_len, members_len}, Find.{as_array, as_bool, as_integer, as_number, as_object, as_str, get_item, get_member}}
 unfoldable pub use Rattle.conf_table.specs.{Classes.{admits_class, class_of, class_words, is_class}, Table.{content_under, entries_of, presence_under, rows_of}}
 unfoldable pub use Rattle.conf_table.specs.Words.{words_of}
-pub use Rattle.conf_table.specs.{Classes.{ClassWord, class_in, class_named, class_said, is_dynamic_array, is_static_array, is_unsigned_integer}, Table.{Told, row_in}}
+pub use Rattle.conf_table.specs.{Classes.{ClassWord, class_in, class_named, class_said, is_dynamic_array, is_static_array, is_unsigned_integer}, Table.{Told, is_by_index, row_in}}
 pub use Rattle.conf_table.specs.{declared.place.Place.Place, declared.row.Content.Content, declared.row.Content.TheVariants.{At, Level, OneFlag, Text, Whole, WholeOrText}}
 pub use Rattle.conf_table.specs.{declared.row.Entries.Entries, declared.row.Keys.Keys, declared.row.Presence.Presence, declared.row.Presence.TheVariants.Needed}
 unfoldable pub use Rattle.conf_judge.specs.Flaws.{all_there, class_rule, is_left_out, orders_there, other_class, resolved_content}
@@ -49,12 +49,12 @@ unfoldable pub use Rattle.conf_draft.specs.{FieldTypes.{length_of, of_class}, In
 unfoldable pub use Rattle.conf_draft.specs.{Lookups.{list, natural, object as object_at, properties, word}, Members.{behind as behind_done, member_type}}
 unfoldable pub use Rattle.conf_draft.specs.{Streams.{stream_type, stream_types}, Structures.{align_of, extra_members, listed, made, structure, structure_of}}
 unfoldable pub use Rattle.conf_draft.specs.Traces.{asks_number, draft_of_root, draft_of_trace, draft_of_type}
-pub use Rattle.conf_draft.specs.{Alignments.{alignment_of, is_alignment}, Clocks.clocks_in, Enumerations.{high, labels_in, low, ranges_in, ranges_of as mappings_of, whole}}
+pub use Rattle.conf_draft.specs.{Alignments.{alignment_of, is_alignment}, Clocks.clocks_in, Enumerations.{high, labels_in, low, ranges_in, whole}}
 pub use Rattle.conf_draft.specs.{Environments.{entries_in, entry_value}, Events.level_of, Features.{byte_type, feature_of, magic_type, number_type}}
 pub use Rattle.conf_draft.specs.{FieldTypes.{element, field_type}, Integers.default_align, Lookups.said_behind, Members.{member_of as member_said, members_behind}}
 pub use Rattle.conf_draft.specs.{Streams.clock_of, Structures.align_for, Traces.{draft_of, draft_with}, declared.draft.Draft.Draft}
 unfoldable pub use Rattle.ctf_types.specs.{Allowed.elements_of, AllowedConfig.LabelsInOrder, Names.is_identifier as is_name, Shown.shown_members}
-pub use Rattle.ctf_types.specs.Allowed.{HasBits as TypeHasBits, IsNest}
+pub use Rattle.ctf_types.specs.Allowed.{IsNest}
 pub use Rattle.ctf_types.specs.AllowedConfig.{AreConfigMembers, InByteOrder, IsClockType, IsConfig, IsConfigLeaf, IsConfigMember, IsConfigStruct, IsEnumeration}
 pub use Rattle.ctf_types.specs.{AllowedConfig.{IsEnvironmentValue, IsEventType, IsPlainUnsigned, IsRangeOf, IsStreamType, OnlyIf, highest, lowest}, FieldTypes.chain_of, Members.names_in}
 pub use Rattle.ctf_types.specs.{Names.{IsConfigName, IsConfigText, IsPlainName, unused_keywords, used_keywords}, Packets.own_names, Shown.length_name}
