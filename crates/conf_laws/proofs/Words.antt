@@ -3,10 +3,9 @@ pub use Rattle.std.proofs.{Math.Bool.and-false, Math.Nat.{mul-mod_right, mul-one
 pub use Rattle.std.proofs.lemmas.Bool.{agree_below_at, and_cases, and_from, and_left, and_parts, and_right, cases_lt, eq-eqb, eqb-false, eqb-true, false≢true, leb-false}
 pub use Rattle.std.proofs.lemmas.Bool.{leb-true, lt-leb, ltb-false, ltb-true, ne_eqb, or_cases, or_from, or_left, or_parts, or_right, true≢false}
 pub use Rattle.std.proofs.{lemmas.Bool.Decides.nat_tests, lemmas.Cmp.{nat_list_cmp_total, tied_itself}, lemmas.Float.T_from_true}
-pub use Rattle.std.proofs.lemmas.List.{append-nil, length-map, map-append}
 pub use Rattle.std.proofs.lemmas.List.Elements.{All-append, All-cons, All-contains, All-from_recursion, All-map, All-nil, All-push, All-weaker}
 pub use Rattle.std.proofs.{lemmas.List.Folds.{list_all_at, list_any_at}, lemmas.Map.Text.is_eq-slice_cmp, lemmas.Nat.mul-le}
-pub use Rattle.std.proofs.{lemmas.Option.{cond_some, same_Some}, lemmas.Slice.Eq.bytes_eq-Decides}
+pub use Rattle.std.proofs.lemmas.{List.{append-nil, length-map, map-append}, Option.{cond_some, same_Some}, Slice.Eq.bytes_eq-Decides}
 pub use Rattle.std.specs.{Cmp.Lexicographic.slice_cmp, Int.Signed.le_z_yes, List.{All, AllByRecursion, list_any}, Option.option_map_or, Ordering.match_ordering, Prelude.⊤}
 pub use Rattle.std.specs.Str.{bytes_eq}
 unfoldable pub use Rattle.std.specs.{List.IsDistinct, List.Sorted.IsStrictlySortedBy}
@@ -38,11 +37,10 @@ unfoldable pub use Rattle.conf_judge.specs.Numbers.{inside_of, is_inside, natura
 unfoldable pub use Rattle.conf_judge.specs.{Places.{is_position, item_content, own_place, place_of_properties}, Shapes.{is_identifier, shape_of}}
 pub use Rattle.conf_judge.specs.Flaws.{admitted, configuration_flaws, content_flaws, inner_flaws, is_needed, is_null, item_flaws, left_out, may_inherit, member_flaws}
 pub use Rattle.conf_judge.specs.{Flaws.{property_flaws, row_there, rows_there, told_by}, Known.{Known, is_true, members_or_none, nothing, says_default, with_taken}}
-pub use Rattle.conf_judge.specs.Leaves.{is_power_of_two, only_if}
 pub use Rattle.conf_judge.specs.Limits.{at_least_one, at_most, bytes_fit, configuration_limits, content_limits, count_of, divides, elements, elements_in_array, inner_limits}
 pub use Rattle.conf_judge.specs.Limits.{is_label, item_limits, member_limits, ranges_in as counted_ranges, ranges_of, times, within_limit}
 pub use Rattle.conf_judge.specs.{Names.{class_of_member, is_taken, take, take_all, take_each, with_names}, Numbers.{all_numbers, end_of, single_of}}
-pub use Rattle.conf_judge.specs.Shapes.{element_has_bits, has_bits, is_byte, is_eight, is_number}
+pub use Rattle.conf_judge.specs.{Leaves.{is_power_of_two, only_if}, Shapes.{element_has_bits, has_bits, is_byte, is_eight, is_number}}
 unfoldable pub use Rattle.conf_draft.specs.{Alignments.alignment, Clocks.{clock_type, clock_types}, Enumerations.enumeration, Environments.environment}
 unfoldable pub use Rattle.conf_draft.specs.{Events.{event_type, event_types}, Features.{byte_of, context, event_header, feature, header, identifier, mapped, size, timestamp}}
 unfoldable pub use Rattle.conf_draft.specs.{FieldTypes.{length_of, of_class}, Integers.{align_of as integer_align, base_of, integer, made as integer_made, size_of}}
