@@ -1,6 +1,6 @@
 -- What a text means is metadata that the rules allow: its streams, and all of it.
-use Rattle.std.proofs.Common.{◌≡◌, ℕ, ◌<◌, Bool, true, false, cond, not, ◌||◌, IsTrue, eqb, ltb, List, [], ◌∷◌, map, All, Contains, Some, None, refl, sym, subst, arith, codes, nat_cmp, Less, ◌≤◌, ◌&&◌, length, ap, ◌∙◌}
-use Rattle.tsdl_meaning.proofs.TextWords.{AllByRecursion, Block, ByteString, Denotes, Dyn, Enum, EnvironmentEntry, Event, Int, IsByteType, IsDistinct, IsEvent, IsIdentity, IsMagic, IsMetadata, IsMetadataName, IsStream, IsStruct, IsUnsigned, Item, Known, Labelled, Leaf, MemberType, NamedFact, NumbersRise, Plain, Static, Str, Stream, StructType, Where, and_true, at_most_one, bind_some, block_and_semicolon, block_toks, by_number, by_number-rises, bytes_eq, clock_names, context_names, each, environment_in, environment_meaning, eqb-true, event_context, event_header, event_in, event_meaning, events_of, fact_meaning, fields_scope, flat_map, has_member, have_streams, header_meaning, insert_numbered, is_byte, is_flat, is_unsigned, is_unsigned_of, is_uuid, items_toks, known_of, leb-true, list_all, list_any, map_some, mark, named_fact_meaning, named_fact_toks, names_in, nat_cmp_is, nat_le, no_two, not-true, only, option_map, packet_context, packet_header, provided, provided_some, some_same, specific_context, stream_in, stream_meaning, streams_meaning, suits, suits_header, text_meta, text_toks, trace_in, with_events, ◌>>=◌}
+use Rattle.std.proofs.Common.{◌≡◌, ℕ, ◌<◌, Bool, true, false, not, ◌||◌, IsTrue, eqb, ltb, List, ◌∷◌, map, All, Option, Some, None, refl, sym, subst, arith, codes, nat_cmp, Less, ◌≤◌, ◌&&◌, length, ap, ◌∙◌, []}
+use Rattle.tsdl_meaning.proofs.TextWords.{AllByRecursion, Block, ByteString, Denotes, Dyn, Enum, EnvironmentEntry, Event, Int, IsByteType, IsDistinct, IsEvent, IsIdentity, IsMagic, IsMetadata, IsMetadataName, IsStream, IsUnsigned, Item, Known, Labelled, Leaf, MemberType, NamedFact, NumbersRise, Plain, Static, Str, Stream, and_true, at_most_one, bind_some, block_and_semicolon, block_toks, by_number, by_number-rises, bytes_eq, clock_names, cond_both, context_names, each, environment_in, environment_meaning, eqb-true, event_context, event_header, event_in, event_meaning, events_of, fact_meaning, fields_scope, flat_map, has_member, have_streams, header_meaning, insert_numbered, is_byte, is_flat, is_unsigned, is_unsigned_of, is_uuid, items_toks, known_of, leb-true, list_any, map_some, mark, named_fact_meaning, named_fact_toks, nat_cmp_is, nat_le, no_two, not-true, only, or_parts, packet_context, packet_header, provided, provided_some, some_same, specific_context, stream_in, stream_meaning, streams_meaning, suits, suits_header, text_meta, text_toks, trace_in, with_events, ◌>>=◌}
 use Rattle.std.specs.List.Sorted.{IsStrictlySortedBy}
 use Rattle.std.proofs.lemmas.List.Elements.{All-from_recursion}
 use Rattle.ctf_types.specs.Packets.{own_names}
@@ -20,14 +20,11 @@ use Rattle.tsdl_grammar.proofs.StreamParts.{streams_stand_by_number}
 
 insert_all : {A : Type 0} (P : A → Type 0) (number : A → ℕ) (x : A) (xs ys : List A) → P x → AllByRecursion P xs → insert_numbered number x xs ≡ Some ys → AllByRecursion P ys
 insert_all P number x [] ys p all e = subst (λ (zs : List _). AllByRecursion P zs) (some_same (x ∷ []) ys (Some (x ∷ [])) refl e) (p, tt)
-insert_all {A} P number x (y ∷ xs) ys p all e = by (ltb (number x) (number y)) (eqb (number x) (number y)) e (λ zs. insert_all P number x xs zs p all.1)
-  where
-    by : (b c : Bool) → cond b (Some (x ∷ y ∷ xs)) (cond c None (option_map (λ zs. y ∷ zs) (insert_numbered number x xs))) ≡ Some ys
-        → ((zs : List A) → insert_numbered number x xs ≡ Some zs → AllByRecursion P zs) → AllByRecursion P ys
-    by true c h rest = subst (λ (zs : List A). AllByRecursion P zs) (some_same (x ∷ y ∷ xs) ys (Some (x ∷ y ∷ xs)) refl h) (p, (all.0, all.1))
-    by false true h rest = absurd cc
-    by false false h rest =
-        let m = map_some (λ zs. y ∷ zs) (insert_numbered number x xs) ys h in subst (λ (zs : List A). AllByRecursion P zs) m.2 (all.0, rest m.0 m.1)
+insert_all {A} P number x (y ∷ xs) ys p all e =
+    let Q : Option (List A) → Type 0 = λ o. o ≡ Some ys → AllByRecursion P ys in
+    cond_both (ltb (number x) (number y)) (Some (x ∷ y ∷ xs)) _ Q (λ _ h. subst (AllByRecursion P) (some_same (x ∷ y ∷ xs) ys (Some (x ∷ y ∷ xs)) refl h) (p, (all.0, all.1)))
+    (λ _. cond_both (eqb (number x) (number y)) None _ Q (λ _ h. absurd cc)
+    (λ _ h. let m = map_some (λ zs. y ∷ zs) (insert_numbered number x xs) ys h in subst (AllByRecursion P) m.2 (all.0, insert_all P number x xs m.0 p all.1 m.1))) e
 
 by_number_all : {A : Type 0} (P : A → Type 0) (number : A → ℕ) (xs ys : List A) → AllByRecursion P xs → by_number number xs ≡ Some ys → AllByRecursion P ys
 by_number_all P number [] ys all e = subst (λ (zs : List _). AllByRecursion P zs) (some_same [] ys (Some []) refl e) tt
@@ -59,23 +56,15 @@ event_allowed known is e g h =
 
 own_all : (P : Event → Type 0) (id : ℕ) (es : List (ℕ × Event)) → AllByRecursion (λ e. P e.1) es → AllByRecursion P (events_of id es)
 own_all P id [] all = tt
-own_all P id (e ∷ es) all = by (eqb e.0 id) (own_all P id es all.1)
-  where
-    by : (b : Bool) → AllByRecursion P (events_of id es) → AllByRecursion P (cond b (e.1 ∷ events_of id es) (events_of id es))
-    by true rest = (all.0, rest)
-    by false rest = rest
+own_all P id (e ∷ es) all =
+    let rest = own_all P id es all.1 in cond_both (eqb e.0 id) (e.1 ∷ events_of id es) (events_of id es) (AllByRecursion P) (λ _. (all.0, rest)) (λ _. rest)
 
 -- ---- streams
 
--- a stream that the rules allow, but for its events
-record IsHead (clocks : List (List ℕ)) (s : Stream) : Type 0 where
-  context : IsStruct clocks s.context
-  event_header : IsStruct clocks s.event_header
-  common : IsStruct clocks s.common
-  own_are_unsigned : All (λ m. IsTrue (list_any (bytes_eq m.0) own_names) → IsUnsigned m.1) s.context.members
-  packet_size : Contains (names_in s.context.members) (codes "packet_size")
-  content_size : Contains (names_in s.context.members) (codes "content_size")
-  id : Where (codes "id") IsUnsigned s.event_header.members
+-- a stream that the rules allow with any events that they allow, in the order of their numbers
+abbrev IsHead : List (List ℕ) → Stream → Type 0
+IsHead clocks s =
+    (es : List Event) → AllByRecursion (IsEvent clocks) es → NumbersRise (λ e. e.id) es → IsStream clocks (record s { events = es })
 
 has_meaning : (named plain : Bool) → (not named || plain) ≡ true → named ≡ true → plain ≡ true
 has_meaning true plain h e = h
@@ -88,7 +77,7 @@ id_unsigned : (m : List ℕ × MemberType) → suits (codes "id" ∷ []) m ≡ t
 id_unsigned m h e = unsigned m.1 (at_name (suits (codes "id" ∷ [])) (codes "id") m h e)
 
 head_allowed : (known : Known) (is : List Item) (s : Stream) → AreGood (items_toks is) → stream_meaning known is ≡ Some s → IsHead known.clocks s
-head_allowed known is s g h =
+head_allowed known is s g h = λ es all rise.
     let says = says_stream known is s h in
     let context = scope_allowed known packet_context (suits context_names) is s.context g says.context in
     let header = scope_allowed known event_header (suits (codes "id" ∷ [])) is s.event_header g says.header in
@@ -97,6 +86,8 @@ head_allowed known is s g h =
       context = context.0;
       event_header = header.0;
       common = (scope_allowed known event_context (λ m. true) is s.common g says.common).0;
+      events = All-from_recursion (IsEvent known.clocks) es all;
+      event_numbers_rise = sorted (λ e. e.id) es rise;
       own_are_unsigned = each_has (suits context_names) (λ m. IsTrue (list_any (bytes_eq m.0) own_names) → IsUnsigned m.1) own_unsigned s.context.members context.1;
       packet_size = (member_says (codes "packet_size") s.context.members).0 sizes.0;
       content_size = (member_says (codes "content_size") s.context.members).0 sizes.1;
@@ -109,18 +100,8 @@ stream_allowed clocks events all s t h e =
     let number : Event → ℕ = λ x. x.id in
     let a = bind_some (by_number number (events_of s.id events)) (λ es. Some (record s { events = es })) t e in
     let made : Stream = record s { events = a.0 } in
-    let allowed : IsStream clocks made = record {
-      context = h.context;
-      event_header = h.event_header;
-      common = h.common;
-      events = All-from_recursion (IsEvent clocks) a.0 (by_number_all (IsEvent clocks) number (events_of s.id events) a.0 (own_all (IsEvent clocks) s.id events all) a.1);
-      event_numbers_rise = sorted number a.0 (by_number-rises number (events_of s.id events) a.0 a.1);
-      own_are_unsigned = h.own_are_unsigned;
-      packet_size = h.packet_size;
-      content_size = h.content_size;
-      id = h.id;
-    } in
-    subst (IsStream clocks) (some_same made t (Some made) refl a.2) allowed
+    let own = by_number_all (IsEvent clocks) number (events_of s.id events) a.0 (own_all (IsEvent clocks) s.id events all) a.1 in
+    subst (IsStream clocks) (some_same made t (Some made) refl a.2) (h a.0 own (by_number-rises number (events_of s.id events) a.0 a.1))
 
 pub streams_allowed : (known : Known) (bs : List Block) (streams : List Stream) → AllByRecursion (λ is. AreGood (items_toks is)) (flat_map stream_in bs)
     → AllByRecursion (λ is. AreGood (items_toks is)) (flat_map event_in bs) → streams_meaning known bs ≡ Some streams → AllByRecursion (IsStream known.clocks) streams
@@ -176,12 +157,7 @@ one_good (x ∷ y ∷ xs) fs g e = absurd cc
 
 neither : (w : List ℕ) (xs : List (List ℕ)) → list_any (bytes_eq w) xs ≡ false → AllByRecursion (λ y. bytes_eq w y ≡ false) xs
 neither w [] h = tt
-neither w (x ∷ xs) h = by (bytes_eq w x) h (neither w xs)
-  where
-    by : (b : Bool) → (b || list_any (bytes_eq w) xs) ≡ false → (list_any (bytes_eq w) xs ≡ false → AllByRecursion (λ y. bytes_eq w y ≡ false) xs)
-        → (b ≡ false) × AllByRecursion (λ y. bytes_eq w y ≡ false) xs
-    by true e rest = absurd cc
-    by false e rest = (refl, rest e)
+neither w (x ∷ xs) h = let both = or_parts (bytes_eq w x) (list_any (bytes_eq w) xs) h in (both.0, neither w xs both.1)
 
 distinct : (xs : List (List ℕ)) → no_two bytes_eq xs ≡ true → IsDistinct bytes_eq xs
 unfolding IsDistinct
@@ -254,14 +230,10 @@ identity_of (Plain (Static e n)) h =
     (eqb-true n 16 b.0, flat_of e.lengths b.1, byte_of e.leaf a.1)
 identity_of (Dyn t l) h = absurd cc
 
-header_allowed : (known : Known) (trace : List Item) (t : StructType) → AreGood (items_toks trace) → header_meaning known trace ≡ Some t
-    → IsStruct known.clocks t × (list_all suits_header t.members ≡ true)
-unfolding header_meaning
-header_allowed known trace t good e = scope_allowed known packet_header suits_header trace t good e
-
 -- ---- the whole
 
 pub text_allowed : (bs : List Block) (m : Metadata) → AreGood (text_toks bs) → text_meta bs ≡ Some m → IsMetadata m
+unfolding header_meaning
 text_allowed bs m g h =
     let says = says_metadata bs m h in
     let known = known_of m.order m.clocks in
@@ -269,7 +241,7 @@ text_allowed bs m g h =
     let a = bind_some (at_most_one (flat_map environment_in bs)) environment_meaning m.environment says.environment in
     let environment = environment_allowed a.0 m.environment (one_good (flat_map environment_in bs) a.0 good.environments a.1) a.2 in
     let trace_good = only_good (λ (is : List Item). AreGood (items_toks is)) (flat_map trace_in bs) says.trace good.traces says.one_trace in
-    let header = header_allowed known says.trace m.header trace_good says.header in
+    let header = scope_allowed known packet_header suits_header says.trace m.header trace_good says.header in
     record {
       environment_names = environment.names;
       environment_distinct = environment.once;

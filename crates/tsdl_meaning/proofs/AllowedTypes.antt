@@ -1,7 +1,7 @@
 -- Types and structures that a metadata text means are those that the rules allow.
-use Rattle.std.proofs.Common.{◌≡◌, ℕ, suc, ◌-◌, ◌*◌, ◌<◌, ◌≤◌, ◌^◌, ℤ, pos, negsuc, ◌≤ℤ◌, Bool, true, false, cond, ◌&&◌, List, [], ◌∷◌, ◌++◌, length, max, get_or, slice_get, All, Contains, Option, Some, None, refl, sym, ap, subst, ◌∙◌, arith, codes, not, append-nil, append_assoc}
+use Rattle.std.proofs.Common.{◌≡◌, ℕ, suc, ◌-◌, ◌*◌, ◌<◌, ◌≤◌, ◌^◌, ℤ, pos, negsuc, ◌≤ℤ◌, Bool, true, false, cond, ◌&&◌, List, ◌∷◌, ◌++◌, length, max, get_or, slice_get, All, Contains, Option, Some, None, refl, sym, ap, subst, ◌∙◌, arith, codes, not, append-nil, append_assoc, []}
 use Rattle.tsdl_grammar.specs.IntegerMeaning.{clock_in}
-use Rattle.tsdl_meaning.proofs.TextWords.{AllByRecursion, AreMembers, Atom, Attribute, Bracket, ByteString, Chain, Dyn, Entries, Entry, Enum, HasBits, Int, IsCount, IsDistinct, IsField, IsLeaf, IsMappedTo, IsMember, IsMetadataName, IsNest, IsRange, IsStruct, IsUnsigned, Item, Kind, Known, Labelled, Leaf, MemberTree, MemberType, Plain, Scope, Static, Str, StructType, Structure, Value, align_of, align_toks, align_with, and_true, are_lengths, arrays_of, attr, bind_some, braced, bracket_toks, bracketed, bytes_eq, bytes_eq-Decides, clock_value, closing_toks, count_of, each, elements_of, encoding_value, entries_of, entries_toks, entry_meaning, entry_toks, enum_meaning, false≢true, field_of, flat_map, has_member, has_only, high_of, high_toks, int_le, int_meaning, int_toks, is_negative, is_unsigned, item_toks, items_toks, kind_meaning, kind_toks, label_toks, leb-true, length_place, list_all, list_any, ltb-true, map_some, mark, member_meaning, member_toks, members_meaning, name_toks, names_in, nat_le, nat_lt, neg_ℤ, next_entry_toks, not-true, number_toks, option_map, optional, or_parts, provided, provided_some, same_words, scope, scope_meaning, scope_toks, scopes_in, sign_toks, signed_of, some_same, struct_meaning, struct_toks, struct_type, structure_of, text_meaning, with_default, word, words_of, ◌>>=◌}
+use Rattle.tsdl_meaning.proofs.TextWords.{AllByRecursion, AreMembers, Atom, Attribute, Bracket, ByteString, Chain, Dyn, Entries, Entry, Enum, HasBits, Int, IsCount, IsDistinct, IsField, IsLeaf, IsMappedTo, IsMember, IsMetadataName, IsNest, IsRange, IsStruct, IsUnsigned, Item, Kind, Known, Labelled, Leaf, MemberTree, MemberType, Plain, Scope, Static, Str, StructType, Structure, Value, align_of, align_toks, align_with, and_true, are_lengths, arrays_of, attr, bind_some, braced, bracket_toks, bracketed, bytes_eq, bytes_eq-Decides, clock_value, closing_toks, cond_both, count_of, each, elements_of, encoding_value, entries_of, entries_toks, entry_meaning, entry_toks, enum_meaning, field_of, flat_map, has_member, has_only, high_of, high_toks, int_le, int_meaning, int_toks, is_negative, is_unsigned, item_toks, items_toks, kind_meaning, kind_toks, label_toks, leb-true, length_place, list_all, list_any, ltb-true, map-append, map_some, mark, member_meaning, member_toks, members_meaning, name_toks, names_in, nat_le, nat_list_eq_equiv, nat_lt, neg_ℤ, next_entry_toks, not-true, number_toks, option_map, optional, or_parts, provided, provided_some, same_words, scope, scope_meaning, scope_toks, scopes_in, sign_toks, signed_of, some_same, struct_meaning, struct_toks, struct_type, structure_of, text_meaning, with_default, word, words_of, ◌>>=◌}
 use Rattle.std.proofs.lemmas.Int.{ints}
 use Rattle.std.proofs.lemmas.Float.{T_from_true}
 use Rattle.std.specs.Int.Signed.{le_z_yes}
@@ -28,7 +28,7 @@ use Rattle.tsdl_grammar.proofs.MeaningParts.{says_integer, says_structure}
 use Rattle.tsdl_meaning.proofs.GoodAtoms.{IsGood, AreGood, all_front, all_back}
 use Rattle.tsdl_grammar.specs.declared.tree.Item.TheVariants as items
 use Rattle.tsdl_grammar.proofs.TypeParts.{struct_type-parts}
-use Rattle.tsdl_meaning.proofs.WordTables.{other_word}
+use Rattle.tsdl_meaning.proofs.FlawlessItems.{all_more}
 
 -- ---- lists
 
@@ -79,22 +79,16 @@ mapped known attrs t e name h = by (attr (codes "map") attrs) ((says_integer kno
 
 -- ---- enumerations
 
-literal_good : (n : numbers.Number) → AreGood (number_toks n) → n.literal < 2 ^ 64
-literal_good n g = (all_back IsGood (sign_toks n.sign) (atoms.Number n.literal ∷ []) g).0
-
 bounds : (b : Bool) (k : ℕ) → k < 2 ^ 64 → (negsuc (2 ^ 64 - 2) ≤ℤ cond b (neg_ℤ (pos k)) (pos k)) × (cond b (neg_ℤ (pos k)) (pos k) ≤ℤ pos (2 ^ 64 - 1))
 bounds true k h = (omega (arith, ints), omega (arith, ints))
 bounds false k h = (omega (arith, ints), omega (arith, ints))
 
 signed_bounds : (n : numbers.Number) → AreGood (number_toks n) → (negsuc (2 ^ 64 - 2) ≤ℤ signed_of n) × (signed_of n ≤ℤ pos (2 ^ 64 - 1))
-signed_bounds n g = bounds (is_negative n.sign) n.literal (literal_good n g)
+signed_bounds n g = bounds (is_negative n.sign) n.literal (all_back IsGood (sign_toks n.sign) (atoms.Number n.literal ∷ []) g).0
 
 high_bound : (low : ℤ) (high : Option numbers.Number) → low ≤ℤ pos (2 ^ 64 - 1) → AreGood (high_toks high) → high_of low high ≤ℤ pos (2 ^ 64 - 1)
 high_bound low None h g = h
 high_bound low (Some n) h g = (signed_bounds n g.1).1
-
-not_above : (low high : ℤ) → int_le low high ≡ true → low ≤ℤ high
-not_above low high h = le_z_yes (T_from_true (int_le low high) h)
 
 in_range : (e : Entry) (m : Mapping) → AreGood (entry_toks e) → entry_meaning e ≡ Some m → IsRange m
 unfolding entry_meaning
@@ -104,7 +98,7 @@ in_range e m g h =
     let low_good = (all_back IsGood (label_toks e.label) (mark marks.Equals ∷ number_toks e.low) (all_front IsGood front (high_toks e.high) g)).1 in
     let b = signed_bounds e.low low_good in
     let p = provided_some (int_le low high) _ m h in
-    subst IsRange (some_same _ m _ refl p.1) (record { ordered = not_above low high p.0; above = b.0; below = high_bound low e.high b.1 (all_back IsGood front (high_toks e.high) g) })
+    subst IsRange (some_same _ m _ refl p.1) (record { ordered = le_z_yes (T_from_true (int_le low high) p.0); above = b.0; below = high_bound low e.high b.1 (all_back IsGood front (high_toks e.high) g) })
 
 entry_list : (es : Entries) → AreGood (entries_toks es) → AllByRecursion (λ e. AreGood (entry_toks e)) (entries_of es)
 entry_list entries.Empty g = tt
@@ -168,9 +162,6 @@ nested ns h =
     let both = and_true (nat_le (length ns) 8) (nat_le (elements_of ns) (2 ^ 20)) h in
     record { depth = leb-true (length ns) 8 both.0; size = omega (arith, leb-true (elements_of ns) (2 ^ 20) both.1, same_elements ns) }
 
-no_lengths : IsNest []
-no_lengths = nested [] refl
-
 array_allowed : (clocks : List (List ℕ)) (leaf : Leaf) (ns : List ℕ) → IsLeaf clocks leaf → IsNest ns → IsField clocks (arrays_of leaf ns)
 array_allowed clocks leaf ns l n = subst (λ (c : Chain). IsLeaf clocks c.leaf × IsNest c.lengths) (sym (chain_of_arrays leaf ns)) (l, n)
 
@@ -197,7 +188,7 @@ bracketed_allowed : (clocks : List (List ℕ)) (before : List (List ℕ × Membe
     → bracketed before leaf bs ≡ Some t → IsMember clocks before t
 unfolding bracketed
 bracketed_allowed clocks before leaf [] t l e =
-    subst (IsMember clocks before) (some_same (Plain (field_of leaf)) t (Some (Plain (field_of leaf))) refl e) (array_allowed clocks leaf [] l no_lengths)
+    subst (IsMember clocks before) (some_same (Plain (field_of leaf)) t (Some (Plain (field_of leaf))) refl e) (array_allowed clocks leaf [] l (nested [] refl))
 bracketed_allowed clocks before leaf (brackets.Count n ∷ bs) t l e =
     let a = bind_some (each count_of (brackets.Count n ∷ bs)) (λ lengths. provided (are_lengths lengths) (Some (Plain (arrays_of leaf lengths)))) t e in
     let b = provided_some (are_lengths a.0) (Some (Plain (arrays_of leaf a.0))) t a.2 in
@@ -229,21 +220,15 @@ member_allowed known before m t g e =
 
 -- ---- names that differ
 
-apart : (w x : List ℕ) → bytes_eq w x ≡ false → bytes_eq x w ≡ false
-apart w x h = other_word x w (λ e. false≢true (sym h ∙ (bytes_eq-Decides w x).1 e))
-
 -- one more name behind the others, which none of them is
 distinct_push : (w : List ℕ) (t : MemberType) (before : List (List ℕ × MemberType)) → has_member w before ≡ false → IsDistinct bytes_eq (names_in before)
     → IsDistinct bytes_eq (names_in (before ++ (w, t) ∷ []))
 unfolding IsDistinct
 distinct_push w t [] h d = (tt, tt)
 distinct_push w t (m ∷ ms) h d =
-    let both = or_parts (bytes_eq w m.0) (has_member w ms) h in (by ms d.0 (apart w m.0 both.0), distinct_push w t ms both.1 d.1)
-  where
-    by : (ks : List (List ℕ × MemberType)) → AllByRecursion (λ y. bytes_eq m.0 y ≡ false) (names_in ks) → bytes_eq m.0 w ≡ false
-        → AllByRecursion (λ y. bytes_eq m.0 y ≡ false) (names_in (ks ++ (w, t) ∷ []))
-    by [] a e = (e, tt)
-    by (k ∷ ks) a e = (a.0, by ks a.1 e)
+    let both = or_parts (bytes_eq w m.0) (has_member w ms) h in
+    let others = all_more (λ y. bytes_eq m.0 y ≡ false) (names_in ms) w d.0 (nat_list_eq_equiv.symm m.0 w ∙ both.0) in
+    (subst (AllByRecursion (λ y. bytes_eq m.0 y ≡ false)) (sym (map-append (λ x. x.0) ms ((w, t) ∷ []))) others, distinct_push w t ms both.1 d.1)
 
 pub distinct_none : IsDistinct bytes_eq []
 unfolding IsDistinct
@@ -333,11 +318,9 @@ structure_good s g =
 
 found_good : (n : List (List ℕ)) (ss : List Scope) (s : Structure) → AllByRecursion (λ x. AreGood (scope_toks x)) ss → scope n ss ≡ Some s → AreGood (struct_toks s)
 found_good n [] s g e = absurd cc
-found_good n (x ∷ ss) s g e = by (same_words (words_of x.name) n) e (found_good n ss s g.1)
-  where
-    by : (b : Bool) → cond b (Some x.structure) (scope n ss) ≡ Some s → (scope n ss ≡ Some s → AreGood (struct_toks s)) → AreGood (struct_toks s)
-    by true h rest = subst (λ (y : Structure). AreGood (struct_toks y)) (some_same x.structure s (Some x.structure) refl h) (structure_good x g.0)
-    by false h rest = rest h
+found_good n (x ∷ ss) s g e =
+    cond_both (same_words (words_of x.name) n) (Some x.structure) (scope n ss) (λ o. o ≡ Some s → AreGood (struct_toks s))
+    (λ _ h. subst (λ (y : Structure). AreGood (struct_toks y)) (some_same x.structure s (Some x.structure) refl h) (structure_good x g.0)) (λ _. found_good n ss s g.1) e
 
 structure_allowed : (known : Known) (o : Option Structure) (t : StructType) → ((s : Structure) → o ≡ Some s → AreGood (struct_toks s)) → structure_of known o ≡ Some t → IsStruct known.clocks t
 structure_allowed known None t g e = no_structure known.clocks t e

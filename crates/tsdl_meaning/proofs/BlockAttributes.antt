@@ -1,12 +1,11 @@
 -- The parts of a block where it is judged: its attributes, its scopes, its tables, and numbers that stand twice.
-use Rattle.std.proofs.Common.{◌≡◌, ℕ, ◌+◌, List, [], ◌∷◌, ◌++◌, Some, None, min, refl, sym, ap, ◌∙◌, subst, inl, inr, arith, append_assoc, codes, Result, Bool, true, false, not, ◌&&◌, cond, Option, Bor}
-use Rattle.tsdl_meaning.proofs.TextWords.{AreNoted, Atom, Attribute, Ends, HasClock, HasEvent, HasNumbers, HasStream, IfErr, IsAttribute, IsBegun, IsPartOfVersion, IsTwice, IsUnsupported, Item, Name, Scope, ScopeRule, Stop, StopsIn, StopsWhere, Value, alone, attr, attr_toks, attrs_in, begun, dotted, first_texts, flat_map, list_all, mark, most, name_toks, name_value, named_rules, natural_value, one_word, rule_in, same_words, scope_toks, stops_after, struct_toks, texts_of, value_toks, word, word_of}
+use Rattle.std.proofs.Common.{◌≡◌, ℕ, ◌+◌, List, ◌∷◌, ◌++◌, Some, None, min, refl, sym, ap, ◌∙◌, subst, inl, inr, arith, append_assoc, codes, Result, Bool, true, false, not, ◌&&◌, cond, Option, Bor, []}
+use Rattle.tsdl_meaning.proofs.TextWords.{AddsAttribute, AddsName, AreNamed, Asked, Atom, Attribute, BTreeSet, Ends, Global, HasClock, HasEvent, HasNumbers, HasStream, IfErr, IfOk, IsAttribute, IsErrAnd, IsPartOfVersion, IsTwice, IsUnsupported, Item, Name, Scope, ScopeRule, Stop, StopsWhere, String, Value, alone, attr, attr_toks, attrs_in, begun, dotted, first_texts, fits, fits_word, flat_map, list_all, mark, most, name_toks, name_value, named_rules, natural_value, one_word, rule_in, same_words, scope_toks, stops_after, struct_toks, texts_of, value_toks, word, IfErr-weaker, IfOk-weaker}
 use Rattle.tsdl_grammar.specs.declared.token.Mark.TheVariants as marks
 use Rattle.tsdl_grammar.specs.declared.tree.Value.TheVariants as values
-use Rattle.tsdl_meaning.specs.declared.judge.block.Judging.{Judging}
-use Rattle.tsdl_meaning.proofs.JudgedLedgers.{noted_more}
+use Rattle.tsdl_grammar.specs.declared.token.Mark.{Mark}
 use Rattle.tsdl_meaning.proofs.StopsInAttributes.{attr_parts}
-use Rattle.tsdl_meaning.proofs.JudgedParts.{ends_more, ends_part, err_from}
+use Rattle.tsdl_meaning.proofs.JudgedParts.{ends_part, handed, stops_same}
 use Rattle.std.specs.List.{find}
 
 -- ---- the value of an attribute
@@ -18,26 +17,34 @@ alone_toks first (x ∷ xs) w h = absurd (let e : None ≡ Some w = h in cc)
 pub only_word : (n : Name) (w : List ℕ) → one_word n ≡ Some w → name_toks n ≡ word w ∷ []
 only_word n w h = alone_toks n.first n.rest w h
 
--- a stop in the value of an attribute whose name is one word
-pub in_value : (a : Attribute) (w block : List ℕ) (items : List Item) (front behind : List Atom) (at place : ℕ) (stop : Stop) → one_word a.name ≡ Some w → place ≡ min (at + 2) most
-    → Ends front (begun block items) → (IsAttribute block w (front ++ word w ∷ mark marks.Equals ∷ []) → (after : List Atom) → StopsIn (front ++ word w ∷ mark marks.Equals ∷ []) place (value_toks a.value ++ after) stop)
-    → StopsIn front at (attr_toks a ++ behind) stop
-in_value a w block items front behind at place stop one is ends s =
+-- what the judge of a value answers is an answer for its attribute, whose name is one word
+pub in_value : (P Q : List Atom → Type 0) (r : Result (Unit {0}) Stop) (a : Attribute) (w : List ℕ) (at place : ℕ) → one_word a.name ≡ Some w → place ≡ min (at + 2) most
+    → ((front : List Atom) → P front → Q (front ++ word w ∷ mark marks.Equals ∷ [])) → IfErr r (StopsWhere Q place (value_toks a.value)) → IfErr r (StopsWhere P at (attr_toks a))
+in_value P Q r a w at place one is ends =
+    IfErr-weaker r (StopsWhere Q place (value_toks a.value)) (StopsWhere P at (attr_toks a))
+    (λ stop h front behind p.
     let opening = word w ∷ mark marks.Equals ∷ [] in
-    let parts : attr_toks a ++ behind ≡ opening ++ (value_toks a.value ++ mark marks.Semicolon ∷ behind) =
-    attr_parts a behind ∙ ap (λ (l : List Atom). (l ++ mark marks.Equals ∷ []) ++ (value_toks a.value ++ mark marks.Semicolon ∷ behind)) (only_word a.name w one)
-    in
-    stops_after front (attr_toks a ++ behind) opening (value_toks a.value ++ mark marks.Semicolon ∷ behind) at place stop parts (λ fits. omega (arith, is))
-    (s (items, ends_more front (begun block items) opening ends) (mark marks.Semicolon ∷ behind))
+    let rest = mark marks.Semicolon ∷ behind in
+    stops_after front (attr_toks a ++ behind) opening (value_toks a.value ++ rest) at place stop
+    (attr_parts a behind ∙ ap (λ (l : List Atom). (l ++ mark marks.Equals ∷ []) ++ (value_toks a.value ++ rest)) (only_word a.name w one)) (λ fits. omega (arith, is))
+    (h (front ++ opening) rest (ends front p)))
 
--- what the judge of a value answers is an answer for the attribute of a block
-pub in_block : (r : Result (Unit {0}) Stop) (a : Attribute) (w : List ℕ) (judging : Judging) (items : List Item) (at place : ℕ) → one_word a.name ≡ Some w → place ≡ min (at + 2) most
-    → IfErr r (StopsWhere (λ (front : List Atom). AreNoted front judging.ledger.now × IsAttribute (word_of judging.kind) w front) place (value_toks a.value)) → IfErr r (StopsWhere (IsBegun judging items) at (attr_toks a))
-in_block r a w judging items at place one is =
-    let opening = word w ∷ mark marks.Equals ∷ [] in
-    err_from r (StopsWhere (λ (front : List Atom). AreNoted front judging.ledger.now × IsAttribute (word_of judging.kind) w front) place (value_toks a.value)) (StopsWhere (IsBegun judging items) at (attr_toks a))
-    (λ stop h front behind b.
-    in_value a w (word_of judging.kind) items front behind at place stop one is b.ends (λ named after. h (front ++ opening) after (noted_more front opening judging.ledger.now b.noted, named)))
+-- and a value that its name asks for joins the attribute to those before it
+pub value_adds : (asked : Asked) (before after : BTreeSet (String Global)) (r : Result (Unit {0}) Stop) (a : Attribute) (w : List ℕ) → AddsName before a.name after → one_word a.name ≡ Some w
+    → IfOk r (λ _. fits asked w a.value ≡ true) → IfOk r (λ _. AddsAttribute asked before a after)
+value_adds asked before after r a w name one =
+    IfOk-weaker r (λ _. fits asked w a.value ≡ true) (λ _. AddsAttribute asked before a after)
+    (λ _ fit. record { name = name; fit = ap (λ (o : Option (List ℕ)). fits_word asked o a.value) one ∙ fit })
+
+-- a name that stands twice is a flaw of what it names
+pub in_name : (P : List Atom → Type 0) (sign : Mark) (names : BTreeSet (String Global)) (r : Result (Unit {0}) Stop) (stop : Stop) (n : Name) (toks rest : List Atom) (at : ℕ)
+    → ((behind : List Atom) → toks ++ behind ≡ (name_toks n ++ mark sign ∷ []) ++ (rest ++ mark marks.Semicolon ∷ behind)) → IsErrAnd r (λ x. x ≡ stop)
+    → ((front : List Atom) → P front → AreNamed front sign names) → ((m : Mark) → StopsWhere (λ front. AreNamed front m names) at (name_toks n ++ mark m ∷ []) stop) → IfErr r (StopsWhere P at toks)
+in_name P sign names r stop n toks rest at parts is are s =
+    handed r stop (StopsWhere P at toks) is
+    (λ front behind p.
+    let more = rest ++ mark marks.Semicolon ∷ behind in
+    stops_same front (toks ++ behind) ((name_toks n ++ mark sign ∷ []) ++ more) at stop (parts behind) (s sign front more (are front p)))
 
 -- ---- flaws of values
 

@@ -1,33 +1,19 @@
 -- Lists of which no two items are the same, walked from the last item to the first.
-use Rattle.std.proofs.Common.{◌≡◌, Bool, true, false, not, cond, ◌&&◌, ◌||◌, List, [], ◌∷◌, ◌++◌, map, refl, sym, ap, ap₂, ◌∙◌, ℕ, Bor, nat_cmp}
-use Rattle.tsdl_meaning.proofs.TextWords.{BTreeSet, Global, HasNames, IsTotalOrder, String, are_distinct, bytes_eq, contains_text, eq_by_cmp, eq_by_cmp_equiv, is_at, list_any, lists_ties, name_lists, nat_list_eq_equiv, no_two, not-true, pointwise, same_words, slice_cmp, texts_of, texts_ties}
+use Rattle.std.proofs.Common.{◌≡◌, Bool, true, false, not, cond, ◌&&◌, ◌||◌, List, ◌∷◌, ◌++◌, map, refl, sym, ap, ap₂, ◌∙◌, ℕ, Bor, nat_cmp, []}
+use Rattle.tsdl_meaning.proofs.TextWords.{BTreeSet, Global, HasNames, IsTotalOrder, String, are_distinct, bytes_eq, contains_text, eq_by_cmp, eq_by_cmp_equiv, is_at, list_any, lists_ties, name_lists, nat_list_eq_equiv, no_two, not-true, pointwise, same_words, slice_cmp, texts_of, texts_ties, or-false, and-false, or_assoc, not-false}
 use Rattle.std.specs.declared.cmp.Ordering.{Ordering}
 use Rattle.tsdl_meaning.specs.Distinct.{no_two_before}
 use Rattle.std.specs.Global.{Vec}
 
--- ---- tests
-
-pub or_false : (a : Bool) → (a || false) ≡ a
-or_false true = refl
-or_false false = refl
-
-and_false : (a : Bool) → (a && false) ≡ false
-and_false true = refl
-and_false false = refl
-
-or_assoc : (a b c : Bool) → ((a || b) || c) ≡ (a || (b || c))
-or_assoc true b c = refl
-or_assoc false b c = refl
-
 pub any_behind : {A : Type 0} (f : A → Bool) (xs : List A) (x : A) → list_any f (xs ++ x ∷ []) ≡ (list_any f xs || f x)
-any_behind f [] x = or_false (f x)
+any_behind f [] x = or-false (f x)
 any_behind f (y ∷ xs) x = ap (λ (b : Bool). f y || b) (any_behind f xs x) ∙ sym (or_assoc (f y) (list_any f xs) (f x))
 
 -- ---- the walk
 
 nothing_behind : {A : Type 0} (same : A → A → Bool) (xs : List A) → no_two_before same (λ w. false) xs ≡ no_two same xs
 nothing_behind same [] = refl
-nothing_behind same (x ∷ xs) = ap₂ (λ (a b : Bool). not a && b) (or_false (list_any (same x) xs)) (nothing_behind same xs)
+nothing_behind same (x ∷ xs) = ap₂ (λ (a b : Bool). not a && b) (or-false (list_any (same x) xs)) (nothing_behind same xs)
 
 -- nothing is behind the whole list
 pub at_first : {A : Type 0} (cmp : A → A → Ordering) (keys xs : List A) → keys ≡ [] → no_two_before (eq_by_cmp cmp) (λ w. list_any (is_at (cmp w)) keys) xs ≡ no_two (eq_by_cmp cmp) xs
@@ -36,7 +22,7 @@ at_first cmp keys xs e = ap (λ (ks : List _). no_two_before (eq_by_cmp cmp) (λ
 twice : {A : Type 0} (same : A → A → Bool) (behind : A → Bool) (x : A) (xs : List A) → behind x ≡ true → no_two_before same behind (xs ++ x ∷ []) ≡ false
 twice same behind x [] h = rw h refl
 twice same behind x (y ∷ xs) h =
-    ap (λ (b : Bool). not (list_any (same y) (xs ++ x ∷ []) || behind y) && b) (twice same behind x xs h) ∙ and_false (not (list_any (same y) (xs ++ x ∷ []) || behind y))
+    ap (λ (b : Bool). not (list_any (same y) (xs ++ x ∷ []) || behind y) && b) (twice same behind x xs h) ∙ and-false (not (list_any (same y) (xs ++ x ∷ []) || behind y))
 
 once : {A : Type 0} (same : A → A → Bool) (behind more : A → Bool) (x : A) (xs : List A) → behind x ≡ false → ((w : A) → more w ≡ (same w x || behind w))
     → no_two_before same behind (xs ++ x ∷ []) ≡ no_two_before same more xs
@@ -50,15 +36,11 @@ by_cond : (b c : Bool) → cond b true c ≡ (b || c)
 by_cond true c = refl
 by_cond false c = refl
 
-is_so : (b : Bool) → not b ≡ false → b ≡ true
-is_so true e = refl
-is_so false e = absurd cc
-
 module _ {A : Type 0} (cmp : A → A → Ordering) (old left rest : List A) (x : A) (all added : Bool) where
   -- the key is among those behind it
   pub stands_twice : left ≡ rest ++ x ∷ [] → no_two_before (eq_by_cmp cmp) (λ w. list_any (is_at (cmp w)) old) left ≡ all → added ≡ not (list_any (is_at (cmp x)) old) → added ≡ false → false ≡ all
   stands_twice e h a f =
-      sym (twice (eq_by_cmp cmp) (λ w. list_any (is_at (cmp w)) old) x rest (is_so (list_any (is_at (cmp x)) old) (sym a ∙ f)))
+      sym (twice (eq_by_cmp cmp) (λ w. list_any (is_at (cmp w)) old) x rest (not-false (list_any (is_at (cmp x)) old) (sym a ∙ f)))
       ∙ ap (λ (l : List _). no_two_before (eq_by_cmp cmp) (λ w. list_any (is_at (cmp w)) old) l) (sym e) ∙ h
 
   -- the key joins those behind the keys before it

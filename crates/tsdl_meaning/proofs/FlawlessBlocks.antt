@@ -1,6 +1,6 @@
 -- What blocks without a flaw mean.
-use Rattle.std.proofs.Common.{◌≡◌, ℕ, ◌==◌, Bool, true, false, not, ◌&&◌, ◌||◌, List, [], ◌∷◌, map, Option, Some, None, refl, sym, ap, subst, ◌∙◌, inl, inr, pos}
-use Rattle.tsdl_meaning.proofs.TextWords.{AllByRecursion, AreFlawless, BlockKind, ByteOrder, ClockType, ContainsKey, Event, HasNumbers, IsFlawlessBlock, IsFlawlessScope, Item, Known, Ledger, SaysClock, SaysEvent, SaysStream, Scope, ScopeRule, Stream, StructType, Value, and_from, and_true, are_distinct, attr, attr_names, attrs_in, cases_Bool, clock_meaning, clock_name, codes, contains, contains_text, event_context, event_header, event_meaning, fields_scope, fits, flag_value, has_in_context, has_member, has_number, has_parts, has_sizes, header_meaning, is_among, is_fit, is_number, is_some, is_trace, list_all, meant_by, name_value, nat_cmp, natural_value, not-true, number_or_zero, of_clock, of_event, of_stream, of_trace, option_map_or, order_table, packet_context, packet_header, pair_cmp, rule_in, same_words, scopes_in, scopes_of, specific_context, stream_meaning, text_value, trace_order, trace_uuid, uuid_value, whole_value, with_default, word_value, words_of, ◌>>=◌}
+use Rattle.std.proofs.Common.{◌≡◌, ℕ, ◌==◌, Bool, true, false, not, ◌&&◌, ◌||◌, List, ◌∷◌, map, Option, Some, None, refl, sym, ap, subst, ◌∙◌, inl, inr, pos, []}
+use Rattle.tsdl_meaning.proofs.TextWords.{AllByRecursion, AreFlawless, BlockKind, ByteOrder, ClockType, ContainsKey, Event, HasNumbers, IsFlawlessBlock, IsFlawlessScope, Item, Known, Ledger, Scope, ScopeRule, Stream, StructType, Value, and_from, and_true, are_distinct, attr, attr_names, attrs_in, cases_Bool, clock_meaning, clock_name, codes, contains, contains_text, event_context, event_header, event_meaning, fields_scope, fits, flag_value, has_in_context, has_number, has_parts, has_sizes, header_meaning, is_among, is_fit, is_number, is_some, is_trace, list_all, meant_by, name_value, nat_cmp, natural_value, not-true, number_or_zero, of_clock, of_event, of_stream, of_trace, option_map_or, order_table, packet_context, packet_header, pair_cmp, rule_in, same_words, scope, scopes_in, scopes_of, specific_context, stream_meaning, text_value, trace_order, trace_uuid, uuid_value, whole_value, with_default, word_value, words_of, ◌>>=◌}
 use Rattle.tsdl_meaning.specs.declared.judge.block.BlockKind.TheVariants as kinds
 use Rattle.tsdl_meaning.specs.declared.scope_rule.ScopeRule.TheVariants.{AnyMembers, PacketHeader, PacketContext, EventHeader}
 use Rattle.tsdl_meaning.proofs.FlawlessItems.{passes_of, some_is, there_of, value_fits, needed_is, default_is, option_is, scope_means, has_alike}
@@ -29,20 +29,6 @@ parts_are : (known : Known) (kind : BlockKind) (ledger : Ledger) (is : List Item
 parts_are known kind ledger is f =
     three (are_distinct (attr_names (attrs_in is))) (are_distinct (map (λ s. words_of s.name) (scopes_in is))) (list_all (λ s. is_among (map (λ row. row.0) (scopes_of kind)) (words_of s.name)) (scopes_in is))
     f.attributes_once f.scopes_once (all_among known kind (scopes_in is) f.scopes)
-
--- ---- what says its parts means them
-
-clock_says : (is : List Item) (c : ClockType) → SaysClock is c → clock_meaning is ≡ Some c
-unfolding clock_meaning
-clock_says is c s = rw (s.once, s.name, s.uuid, s.description, s.frequency, s.precision, s.offset_seconds, s.offset_cycles, s.absolute) refl
-
-stream_says : (known : Known) (is : List Item) (s : Stream) → SaysStream known is s → s.events ≡ [] → stream_meaning known is ≡ Some s
-unfolding stream_meaning
-stream_says known is s says none = rw (says.once, says.id, says.context, says.header, says.common, says.sizes, sym none) refl
-
-event_says : (known : Known) (is : List Item) (stream : ℕ) (e : Event) → SaysEvent known is stream e → event_meaning known is ≡ Some (stream, e)
-unfolding event_meaning
-event_says known is stream e s = rw (s.once, s.name, s.id, s.stream_id, s.log_level, s.specific, s.fields) refl
 
 -- ---- the trace
 
@@ -95,6 +81,7 @@ pub record ClockOf (ledger : Ledger) (is : List Item) : Type 0 where
   pub anew : contains_text ledger.clocks clock.name ≡ false
 
 pub clock_means : (known : Known) (ledger : Ledger) (is : List Item) → IsFlawlessBlock known kinds.Clock ledger is → ClockOf ledger is
+unfolding clock_meaning
 clock_means known ledger is f =
     let attrs = attrs_in is in
     let all = f.parts.attributes in
@@ -119,22 +106,11 @@ clock_means known ledger is f =
       offset_cycles = cycles.0;
       absolute = absolute.0;
     } in
-    let says : SaysClock is clock = record {
-      once = parts_are known kinds.Clock ledger is f.parts;
-      name = name.1;
-      uuid = uuid.1;
-      description = description.1;
-      frequency = frequency.1;
-      precision = precision.1;
-      offset_seconds = seconds.1;
-      offset_cycles = cycles.1;
-      absolute = absolute.1;
-    } in
     let v = some_is (attr (codes "name") attrs) there in
     let value : name_value v.0 ≡ Some name.0 = sym (ap (λ (o : Option Value). o >>= name_value) v.1) ∙ name.1 in
     record {
       clock = clock;
-      means = clock_says is clock says;
+      means = rw (parts_are known kinds.Clock ledger is f.parts, name.1, uuid.1, description.1, frequency.1, precision.1, seconds.1, cycles.1, absolute.1) refl;
       named = name.1;
       anew = not-true (taken name.0) (passes_of (λ w. not (taken w)) (name_value v.0) name.0 (value_fits asked (codes "name") attrs v.0 all v.1) value);
     }
@@ -154,6 +130,7 @@ number_free taken None n e none some = let zero_is : 0 ≡ n = cc in subst (λ (
 number_free taken (Some v) n e none some = not-true (taken n) (passes_of (λ m. not (taken m)) (natural_value v) n (some v refl) e)
 
 pub stream_means : (known : Known) (ledger : Ledger) (is : List Item) → IsFlawlessBlock known kinds.Stream ledger is → StreamOf known ledger is
+unfolding stream_meaning
 stream_means known ledger is f =
     let attrs = attrs_in is in
     let scopes = scopes_in is in
@@ -170,18 +147,11 @@ stream_means known ledger is f =
       anew = number_free taken (attr (codes "id") attrs) id.0 id.1 f.ended.anew (λ v e. value_fits asked (codes "id") attrs v all e);
       means = λ sizes.
           let s : Stream = record { id = id.0; context = context.meant; event_header = header.meant; common = common.meant; events = [] } in
-          let says : SaysStream known is s = record {
-            once = parts_are known kinds.Stream ledger is f.parts;
-            id = id.1;
-            context = context.means;
-            header = header.means;
-            common = common.means;
-            sizes =
-                and_from (has_member (codes "packet_size") context.meant.members) (has_member (codes "content_size") context.meant.members)
-                (has_alike known packet_context PacketContext scopes (codes "packet_size") context ∙ (and_true (has_in_context (codes "packet_size") is) (has_in_context (codes "content_size") is) sizes).0)
-                (has_alike known packet_context PacketContext scopes (codes "content_size") context ∙ (and_true (has_in_context (codes "packet_size") is) (has_in_context (codes "content_size") is) sizes).1);
-          } in
-          (s, stream_says known is s says refl, refl);
+          let o = scope packet_context scopes in
+          let both = and_true (has_in_context (codes "packet_size") is) (has_in_context (codes "content_size") is) sizes in
+          let packet = has_alike known PacketContext o (codes "packet_size") context ∙ both.0 in
+          let content = has_alike known PacketContext o (codes "content_size") context ∙ both.1 in
+          (s, rw (parts_are known kinds.Stream ledger is f.parts, id.1, context.means, header.means, common.means, packet, content) refl, refl);
     }
 
 -- ---- events
@@ -195,6 +165,7 @@ pub record EventOf (known : Known) (ledger : Ledger) (is : List Item) : Type 0 w
   pub anew : ContainsKey pair_cmp ledger.events (stream, event.id) → ⊥
 
 pub event_means : (known : Known) (ledger : Ledger) (is : List Item) → IsFlawlessBlock known kinds.Event ledger is → EventOf known ledger is
+unfolding event_meaning
 event_means known ledger is f =
     let attrs = attrs_in is in
     let scopes = scopes_in is in
@@ -207,13 +178,11 @@ event_means known ledger is f =
     let specific = scope_means known kinds.Event specific_context AnyMembers scopes f.parts.scopes refl in
     let fields = scope_means known kinds.Event fields_scope AnyMembers scopes f.parts.scopes refl in
     let e : Event = record { id = id.0; name = name.0; log_level = level.0; specific = specific.meant; fields = fields.meant } in
-    let says : SaysEvent known is stream.0 e = record {
-      once = parts_are known kinds.Event ledger is f.parts;
-      name = name.1;
-      id = id.1;
-      stream_id = stream.1;
-      log_level = level.1;
-      specific = specific.means;
-      fields = fields.means;
-    } in
-    record { stream = stream.0; event = e; means = event_says known is stream.0 e says; named = name.1; numbers = (stream.1, id.1); anew = f.ended.anew stream.0 id.0 (stream.1, id.1) }
+    record {
+      stream = stream.0;
+      event = e;
+      means = rw (parts_are known kinds.Event ledger is f.parts, name.1, id.1, stream.1, level.1, specific.means, fields.means) refl;
+      named = name.1;
+      numbers = (stream.1, id.1);
+      anew = f.ended.anew stream.0 id.0 (stream.1, id.1);
+    }

@@ -1,6 +1,6 @@
 -- The entries of an environment: what those without a flaw mean, and names that stand twice.
-use Rattle.std.proofs.Common.{◌≡◌, ℕ, ◌+◌, ◌≤◌, Bool, true, false, ◌&&◌, List, [], ◌∷◌, ◌++◌, map, length, Option, Some, refl, sym, ap, ◌∙◌, arith, length-append, inl, bytes_eq}
-use Rattle.tsdl_meaning.proofs.TextWords.{AddsFact, AllByRecursion, Atom, EndsFacts, EnvironmentEntry, IsTwice, MeanEntries, Name, NamedFact, and_from, bind_is, bind_some, bytes_eq, bytes_eq-Decides, each, environment_meaning, fact_meaning, fact_toks, flat_map, list_any, map-append, mark, named_fact_meaning, named_fact_toks, nat_le, nat_list_eq_equiv, no_two, option_map, or_parts, provided, some_same, word, ◌>>=◌}
+use Rattle.std.proofs.Common.{◌≡◌, ℕ, ◌≤◌, Bool, true, false, ◌&&◌, List, ◌∷◌, ◌++◌, map, length, Option, Some, refl, sym, ap, ◌∙◌, arith, length-append, inl, bytes_eq, []}
+use Rattle.tsdl_meaning.proofs.TextWords.{AddsFact, AllByRecursion, Atom, EndsFacts, EnvironmentEntry, IsTwice, MeanEntries, Name, NamedFact, and_from, bind_some, bytes_eq, bytes_eq-Decides, each, environment_meaning, fact_meaning, fact_toks, flat_map, list_any, map-append, mark, named_fact_meaning, named_fact_toks, nat_le, nat_list_eq_equiv, no_two, option_map, or_parts, provided, some_same, word, ◌>>=◌}
 use Rattle.std.proofs.lemmas.Bool.Decides.{nat_tests}
 use Rattle.tsdl_meaning.proofs.Fronts.{any_mapped}
 use Rattle.tsdl_meaning.proofs.FlawlessItems.{no_two_more, some_is}
@@ -9,14 +9,11 @@ use Rattle.tsdl_grammar.specs.declared.token.Mark.TheVariants as marks
 
 -- what is made of one more item
 pub each_more : {A B : Type 0} (f : A → Option B) (xs : List A) (ys : List B) (x : A) (y : B) → each f xs ≡ Some ys → f x ≡ Some y → each f (xs ++ x ∷ []) ≡ Some (ys ++ y ∷ [])
-each_more {A} {B} f [] ys x y e h =
-    bind_is (f x) (λ z. Some (z ∷ [])) y (ys ++ y ∷ []) h (ap (λ (l : List B). Some (l ++ y ∷ [])) (some_same [] ys (Some []) refl e))
+each_more {A} {B} f [] ys x y e h = rw h (ap (λ (l : List B). Some (l ++ y ∷ [])) (some_same [] ys (Some []) refl e))
 each_more {A} {B} f (z ∷ xs) ys x y e h =
     let a = bind_some (f z) (λ u. each f xs >>= λ us. Some (u ∷ us)) ys e in
     let b = bind_some (each f xs) (λ us. Some (a.0 ∷ us)) ys a.2 in
-    let same : a.0 ∷ b.0 ≡ ys = some_same (a.0 ∷ b.0) ys (Some (a.0 ∷ b.0)) refl b.2 in
-    bind_is (f z) (λ u. each f (xs ++ x ∷ []) >>= λ us. Some (u ∷ us)) a.0 (ys ++ y ∷ []) a.1
-    (bind_is (each f (xs ++ x ∷ [])) (λ us. Some (a.0 ∷ us)) (b.0 ++ y ∷ []) (ys ++ y ∷ []) (each_more f xs b.0 x y b.1 h) (ap (λ (l : List B). Some (l ++ y ∷ [])) same))
+    rw (a.1, each_more f xs b.0 x y b.1 h) (ap (λ (l : List B). Some (l ++ y ∷ [])) (some_same (a.0 ∷ b.0) ys (Some (a.0 ∷ b.0)) refl b.2))
 
 -- the entries so far
 pub record Facts (facts : List NamedFact) : Type 0 where

@@ -1,6 +1,7 @@
 -- Names, attributes and scopes without a flaw, one behind the other, and what is looked up among them.
-use Rattle.std.proofs.Common.{◌≡◌, ℕ, Bool, true, false, not, ◌&&◌, ◌||◌, List, [], ◌∷◌, ◌++◌, refl, ap, ap₂, ◌∙◌, inl, inr, Option, Some, None, sym, subst, map, append_assoc, ◌+◌}
-use Rattle.tsdl_meaning.proofs.TextWords.{AddsAttribute, AddsName, AddsScope, AllByRecursion, AreFlawless, Asked, Attribute, BTreeSet, BlockKind, Global, HasNames, IsFlawlessScope, Item, Known, Ledger, MemberTree, MemberType, Name, Scope, ScopeRule, String, StructType, Structure, Value, alone, and_from, and_true, append-nil, are_distinct, asked_of, attr, attr_in, attrs_in, bind_is, bind_some, bytes_eq, bytes_eq-Decides, cases_Bool, eqb-true, false≢true, fits, fits_word, flat_map, has_member, is_fit, is_some, is_word, list_all, list_any, ltb-true, map-append, member_names, members_meaning, names_in, no_two, not-true, not_from_false, one_word, option_map, option_map_or, optional, or_parts, provided, rule_in, same_words, scope, scope_in, scope_meaning, scopes_in, scopes_of, some_same, struct_meaning, struct_type, structure_of, suits_rule, with_default, with_dot, words_of, written, ◌>>=◌}
+use Rattle.std.proofs.Common.{◌≡◌, ℕ, Bool, true, false, not, ◌&&◌, List, ◌∷◌, ◌++◌, refl, ap, ap₂, ◌∙◌, inl, inr, Option, Some, None, sym, subst, map, append_assoc, []}
+use Rattle.tsdl_meaning.proofs.MemberNames.{member_there}
+use Rattle.tsdl_meaning.proofs.TextWords.{AddsAttribute, AddsName, AddsScope, AllByRecursion, AreFlawless, Asked, Attribute, BTreeSet, BlockKind, Global, HasNames, IsFlawlessScope, Item, Known, Ledger, MemberTree, MemberType, Name, Scope, ScopeRule, String, StructType, Structure, Value, alone, and_from, and_true, append-nil, are_distinct, asked_of, attr, attr_in, attrs_in, bind_is, bind_some, bytes_eq, bytes_eq-Decides, cases_Bool, eqb-true, false≢true, fits, fits_word, flat_map, has_member, is_fit, is_some, is_word, list_all, list_any, ltb-true, map-append, member_names, members_meaning, names_in, no_two, not-true, not_from_false, one_word, option_map, option_map_or, optional, or_parts, provided, rule_in, same_words, scope, scope_in, scopes_in, scopes_of, some_same, struct_type, structure_of, suits_rule, with_default, with_dot, words_of, written, ◌>>=◌, or_from, false_from_ne_true}
 use Rattle.std.proofs.lemmas.List.Concat.{flat_map-append}
 use Rattle.tsdl_meaning.proofs.DistinctKeys.{any_behind, one_name}
 use Rattle.tsdl_grammar.proofs.TypeParts.{struct_type-own}
@@ -8,12 +9,6 @@ use Rattle.tsdl_grammar.proofs.MeaningParts.{says_structure}
 use Rattle.tsdl_meaning.specs.FlawlessStructures.{IsFlawless}
 use Rattle.std.proofs.lemmas.List.Folds.{list_all-append}
 use Rattle.tsdl_grammar.specs.declared.tree.Item.TheVariants as items
-
--- ---- tests
-
-or_none : (a b : Bool) → a ≡ false → b ≡ false → (a || b) ≡ false
-or_none true b e f = absurd cc
-or_none false b e f = f
 
 -- ---- lists
 
@@ -37,7 +32,7 @@ no_two_more same [] x others d = refl
 no_two_more same (y ∷ ys) x others d =
     let none = not-true (list_any (same y) ys) (and_true (not (list_any (same y) ys)) (no_two same ys) d).0 in
     and_from (not (list_any (same y) (ys ++ x ∷ []))) (no_two same (ys ++ x ∷ []))
-    (not_from_false (list_any (same y) (ys ++ x ∷ [])) (any_behind (same y) ys x ∙ or_none (list_any (same y) ys) (same y x) none others.0))
+    (not_from_false (list_any (same y) (ys ++ x ∷ [])) (any_behind (same y) ys x ∙ or_from (list_any (same y) ys) (same y x) none others.0))
     (no_two_more same ys x others.1 (and_true (not (list_any (same y) ys)) (no_two same ys) d).1)
 
 -- ---- names as they are written
@@ -56,10 +51,8 @@ written_words (w ∷ ws) = w ++ flat_map with_dot ws
 -- a name that is written otherwise has other words
 other_words : (m n : Name) → bytes_eq (written n) (written m) ≡ false → same_words (words_of m) (words_of n) ≡ false
 other_words m n e =
-    elim (cases_Bool (same_words (words_of m) (words_of n))) [
-      | inr f ↦ f
-      | inl t ↦ (let same : written n ≡ written m = ap written_words (sym (same_words-is (words_of m) (words_of n) t)) in absurd (false≢true (sym e ∙ (bytes_eq-Decides (written n) (written m)).1 same)))
-    ]
+    false_from_ne_true (same_words (words_of m) (words_of n))
+    (λ t. let same : written n ≡ written m = ap written_words (sym (same_words-is (words_of m) (words_of n) t)) in false≢true (sym e ∙ (bytes_eq-Decides (written n) (written m)).1 same))
 
 module _ {A : Type 0} (named : A → Name) where
   -- no two of the names are the same, and the set has them as they are written
@@ -147,8 +140,6 @@ module _ {A : Type 0} (asked : Asked) (f : Value → Option A) (w : List ℕ) (a
   pub option_is : (x : Option A) × (optional f (attr w attrs) ≡ Some x)
   option_is = option_of (attr w attrs) (λ v e. asks v (value_fits asked w attrs v all e))
 
--- ---- scopes
-
 -- ---- the names of members
 
 pub named_alike : (known : Known) (before : List (List ℕ × MemberType)) (trees : List MemberTree) (members : List (List ℕ × MemberType)) → members_meaning known before trees ≡ Some members
@@ -160,10 +151,6 @@ named_alike known before (t ∷ trees) members e =
     named_alike known (before ++ (t.name, a.0) ∷ []) trees members a.2
     ∙ ap (λ (l : List (List ℕ)). l ++ map (λ x. x.name) trees) (map-append (λ m. m.0) before ((t.name, a.0) ∷ []))
     ∙ append_assoc (names_in before) (t.name ∷ []) (map (λ x. x.name) trees)
-
-pub member_there : (w : List ℕ) (members : List (List ℕ × MemberType)) → has_member w members ≡ list_any (bytes_eq w) (names_in members)
-member_there w [] = refl
-member_there w (m ∷ ms) = ap (λ (b : Bool). bytes_eq w m.0 || b) (member_there w ms)
 
 -- ---- the structure of a scope
 
@@ -185,21 +172,16 @@ found known kind n rule (s ∷ scopes) all asks =
       | inr f ↦ (let later : scope n (s ∷ scopes) ≡ scope n scopes = rw f refl in subst (MayBeFlawless known rule) (sym later) (found known kind n rule scopes all.1 asks))
     ]
 
--- a scope means a structure, of which the members are those that stand there
-pub record Means (known : Known) (n : List (List ℕ)) (rule : ScopeRule) (scopes : List Scope) : Type 0 where
-  pub meant : StructType
-  pub means : scope_meaning known n (suits_rule rule) scopes ≡ Some meant
-  pub names : names_in meant.members ≡ member_names (scope n scopes)
-
 nothing : StructType
 nothing = record { members = []; min_align = 1; positive = ltb-true 0 1 refl; power_of_two = eqb-true 0 0 refl }
 
-record Held (known : Known) (rule : ScopeRule) (o : Option Structure) : Type 0 where
-  meant : StructType
-  means : (structure_of known o >>= λ t. provided (list_all (suits_rule rule) t.members) (Some t)) ≡ Some meant
-  names : names_in meant.members ≡ member_names o
+-- the structure of a scope means one of which the members are those that stand there
+pub record Means (known : Known) (rule : ScopeRule) (o : Option Structure) : Type 0 where
+  pub meant : StructType
+  pub means : (structure_of known o >>= λ t. provided (list_all (suits_rule rule) t.members) (Some t)) ≡ Some meant
+  pub names : names_in meant.members ≡ member_names o
 
-meant_by : (known : Known) (rule : ScopeRule) (o : Option Structure) → MayBeFlawless known rule o → Held known rule o
+meant_by : (known : Known) (rule : ScopeRule) (o : Option Structure) → MayBeFlawless known rule o → Means known rule o
 unfolding nothing
 meant_by known rule None h = record {
   meant = nothing;
@@ -208,20 +190,17 @@ meant_by known rule None h = record {
 }
 meant_by known rule (Some s) h = record {
   meant = h.meant;
-  means =
-      bind_is (struct_meaning known s) (λ t. provided (list_all (suits_rule rule) t.members) (Some t)) h.meant h.meant h.means (ap (λ (b : Bool). provided b (Some h.meant)) h.suit);
+  means = rw (h.means, h.suit) refl;
   names = named_alike known [] s.members h.meant.members (says_structure known s h.meant h.means).members;
 }
 
 pub scope_means : (known : Known) (kind : BlockKind) (n : List (List ℕ)) (rule : ScopeRule) (scopes : List Scope) → AllByRecursion (IsFlawlessScope known kind) scopes
-    → rule_in (scopes_of kind) n ≡ Some rule → Means known n rule scopes
-scope_means known kind n rule scopes all asks =
-    let h = meant_by known rule (scope n scopes) (found known kind n rule scopes all asks) in
-    record { meant = h.meant; means = h.means; names = h.names }
+    → rule_in (scopes_of kind) n ≡ Some rule → Means known rule (scope n scopes)
+scope_means known kind n rule scopes all asks = meant_by known rule (scope n scopes) (found known kind n rule scopes all asks)
 
 -- a member of this name is there where one stands there
-pub has_alike : (known : Known) (n : List (List ℕ)) (rule : ScopeRule) (scopes : List Scope) (w : List ℕ) (m : Means known n rule scopes) → has_member w m.meant.members ≡ list_any (bytes_eq w) (member_names (scope n scopes))
-has_alike known n rule scopes w m = member_there w m.meant.members ∙ ap (list_any (bytes_eq w)) m.names
+pub has_alike : (known : Known) (rule : ScopeRule) (o : Option Structure) (w : List ℕ) (m : Means known rule o) → has_member w m.meant.members ≡ list_any (bytes_eq w) (member_names o)
+has_alike known rule o w m = member_there w m.meant.members ∙ ap (list_any (bytes_eq w)) m.names
 
 -- ---- items
 

@@ -1,7 +1,7 @@
 -- Blocks without a flaw, one behind the other, and the metadata that they mean.
-use Rattle.std.proofs.Common.{◌≡◌, ℕ, ◌+◌, ◌==◌, Bool, true, false, not, cond, ◌&&◌, ◌||◌, List, [], ◌∷◌, ◌++◌, Contains, Option, Some, None, refl, sym, ap, ap₂, subst, ◌∙◌, inl, inr, arith}
-use Rattle.tsdl_meaning.proofs.TextWords.{AddsBlock, AddsClock, AddsStream, AllByRecursion, BTreeMap, BTreeSet, Block, ClockType, ContainsKey, EnvironmentEntry, Event, Global, HaveStreams, IsEmpty, IsFlawlessBehind, Item, Known, LacksSizes, Ledger, MeanEntries, NamedFact, SaysMetadata, Stream, String, Surveys, and_from, and_true, append-nil, at_most_one, bind_is, by_number, bytes_eq, bytes_eq-Decides, cases_Bool, clock_meaning, contains, contains_text, each, environment_in, environment_meaning, eqb-true, event_in, event_meaning, events_of, flat_map, has_sizes, have_streams, header_meaning, list_all, list_any, nat_cmp, no_two, not-true, not_from_false, only, or_left, or_parts, or_right, pair_cmp, provided, stream_in, stream_meaning, streams_meaning, text_meta, trace_in, with_events, ◌>>=◌}
-use Rattle.std.proofs.lemmas.Bool.Decides.{nat_tests}
+use Rattle.std.proofs.Common.{◌≡◌, ℕ, ◌==◌, Bool, true, false, not, cond, ◌&&◌, ◌||◌, List, ◌∷◌, ◌++◌, Contains, Option, Some, None, refl, sym, ap, ap₂, subst, ◌∙◌, inl, inr, arith, []}
+use Rattle.std.proofs.lemmas.List.Elements.{Contains-append_right}
+use Rattle.tsdl_meaning.proofs.TextWords.{AddsBlock, AddsClock, AddsStream, AllByRecursion, BTreeMap, BTreeSet, Block, ClockType, ContainsKey, EnvironmentEntry, Event, Global, HaveStreams, IsEmpty, IsFlawlessBehind, Item, Known, LacksSizes, Ledger, MeanEntries, NamedFact, SaysMetadata, Stream, String, Surveys, and_from, and_true, append-nil, at_most_one, bytes_eq, bytes_eq-Decides, cases_Bool, clock_meaning, contains, contains_text, each, environment_in, environment_meaning, eqb-true, event_in, event_meaning, events_of, flat_map, has_sizes, have_streams, header_meaning, list_all, list_any, nat_cmp, no_two, not-true, not_from_false, only, or_left, or_parts, or_right, pair_cmp, stream_in, stream_meaning, streams_meaning, text_meta, trace_in, with_events, ◌>>=◌, false_from_ne_true, eq-eqb}
 use Rattle.std.proofs.lemmas.List.Folds.{list_all-append, list_any-append}
 use Rattle.ctf_types.specs.declared.Metadata.{Metadata}
 use Rattle.tsdl_grammar.specs.declared.tree.Block.TheVariants as blocks
@@ -9,7 +9,6 @@ use Rattle.tsdl_grammar.specs.Denotes.{clock_in}
 use Rattle.tsdl_grammar.proofs.MeaningParts.{text_says}
 use Rattle.tsdl_meaning.specs.FlawlessTexts.{AddsEvent}
 use Rattle.tsdl_meaning.proofs.DistinctKeys.{no_two_seen}
-use Rattle.tsdl_meaning.proofs.MemberNames.{contains_first, contains_later}
 use Rattle.tsdl_meaning.proofs.FlawlessItems.{all_more, all_weaker, flat_more, no_two_more}
 use Rattle.tsdl_meaning.proofs.FlawlessFacts.{each_more, no_facts, facts_mean}
 use Rattle.tsdl_meaning.proofs.FlawlessBlocks.{TraceOf, ClockOf, StreamOf, EventOf, trace_means, clock_means, stream_means, event_means}
@@ -41,11 +40,7 @@ abbrev pub Clocks : BTreeSet (String Global) → List (List Item) → Type 0
 Clocks names all = Collected clock_meaning same_name (λ c. contains_text names c.name ≡ true) all
 
 other_than : {A : Type 0} (there : A → Bool) (same : A → A → Bool) → ((x y : A) → same x y ≡ true → x ≡ y) → (x y : A) → there x ≡ true → there y ≡ false → same x y ≡ false
-other_than there same is x y old fresh =
-    elim (cases_Bool (same x y)) [
-      | inr e ↦ e
-      | inl e ↦ absurd (let alike : there x ≡ there y = ap there (is x y e) in cc)
-    ]
+other_than there same is x y old fresh = false_from_ne_true (same x y) (λ e. let alike : there x ≡ there y = ap there (is x y e) in cc)
 
 still : (b c : Bool) → c ≡ true → cond b true c ≡ true
 still true c e = refl
@@ -68,9 +63,6 @@ pub record Streams (known : Known) (numbers : BTreeSet ℕ) (all : List (List It
   pub found : Collected (stream_meaning known) same_id (λ s. contains nat_cmp numbers s.id ≡ true) all
   pub there : (n : ℕ) → contains nat_cmp numbers n ≡ true → list_any (λ s. s.id == n) found.made ≡ true
 
-same_number : (n : ℕ) → (n == n) ≡ true
-same_number n = grind (arith, nat_tests)
-
 stream_more : (known : Known) (ledger after : Ledger) (all : List (List Item)) (is : List Item) → StreamOf known ledger is → (adds : AddsStream ledger is after)
     → (list_all has_sizes all ≡ true → Streams known ledger.streams all) → list_all has_sizes (all ++ is ∷ []) ≡ true → Streams known adds.streams (all ++ is ∷ [])
 unfolding collected_more
@@ -89,7 +81,7 @@ stream_more known ledger after all is o adds before sized =
           list_any-append (λ x. x.id == n) s.found.made (stream ∷ [])
           ∙ elim ((added n).0 h) [
             | inl e ↦ or_right (list_any (λ x. x.id == n) s.found.made) ((stream.id == n) || false)
-                (or_left (stream.id == n) false (ap (λ (m : ℕ). stream.id == m) (e ∙ sym one.2) ∙ same_number stream.id))
+                (or_left (stream.id == n) false (ap (λ (m : ℕ). stream.id == m) (e ∙ sym one.2) ∙ eq-eqb stream.id stream.id refl))
             | inr old ↦ or_left (list_any (λ x. x.id == n) s.found.made) ((stream.id == n) || false) (s.there n old)
           ];
     }
@@ -105,13 +97,10 @@ Events known keys all = Collected (event_meaning known) same_key (λ e. Contains
 
 other_key : (keys : BTreeMap (ℕ × ℕ) (String Global)) (e f : ℕ × Event) → ContainsKey pair_cmp keys (e.0, e.1.id) → (ContainsKey pair_cmp keys (f.0, f.1.id) → ⊥) → same_key e f ≡ false
 other_key keys e f there fresh =
-    elim (cases_Bool (same_key e f)) [
-      | inr h ↦ h
-      | inl h ↦
-          let streams = eqb-true e.0 f.0 (and_true (e.0 == f.0) (e.1.id == f.1.id) h).0 in
-          let ids = eqb-true e.1.id f.1.id (and_true (e.0 == f.0) (e.1.id == f.1.id) h).1 in
-          absurd (fresh (subst (λ (k : ℕ × ℕ). ContainsKey pair_cmp keys k) (ap₂ (λ (m n : ℕ). (m, n)) streams ids) there))
-    ]
+    false_from_ne_true (same_key e f)
+    (λ h.
+    let both = and_true (e.0 == f.0) (e.1.id == f.1.id) h in
+    fresh (subst (λ (k : ℕ × ℕ). ContainsKey pair_cmp keys k) (ap₂ (λ (m n : ℕ). (m, n)) (eqb-true e.0 f.0 both.0) (eqb-true e.1.id f.1.id both.1)) there))
 
 event_more : (known : Known) (ledger after : Ledger) (all : List (List Item)) (is : List Item) → EventOf known ledger is → Events known ledger.events all → (adds : AddsEvent ledger is after)
     → Events known adds.events (all ++ is ∷ [])
@@ -193,7 +182,7 @@ none_of id e (f ∷ es) is none =
     let rest = none_of id e es is (or_parts (same_key e f) (list_any (same_key e) es) none).1 in
     elim (cases_Bool (f.0 == id)) [
       | inl t ↦
-          let same : (e.0 == f.0) ≡ true = ap (λ (n : ℕ). n == f.0) (is ∙ sym (eqb-true f.0 id t)) ∙ same_number f.0 in
+          let same : (e.0 == f.0) ≡ true = ap (λ (n : ℕ). n == f.0) (is ∙ sym (eqb-true f.0 id t)) ∙ eq-eqb f.0 f.0 refl in
           let other : (e.1.id == f.1.id) ≡ false = sym (ap (λ (b : Bool). b && (e.1.id == f.1.id)) same) ∙ (or_parts (same_key e f) (list_any (same_key e) es) none).0 in
           rw (t, other) rest
       | inr t ↦ rw t rest
@@ -202,8 +191,9 @@ none_of id e (f ∷ es) is none =
 own_once : (id : ℕ) (es : List (ℕ × Event)) → no_two same_key es ≡ true → no_two (λ x y. x.id == y.id) (events_of id es) ≡ true
 own_once id [] d = refl
 own_once id (e ∷ es) d =
-    let none = not-true (list_any (same_key e) es) (and_true (not (list_any (same_key e) es)) (no_two same_key es) d).0 in
-    let rest = own_once id es (and_true (not (list_any (same_key e) es)) (no_two same_key es) d).1 in
+    let both = and_true (not (list_any (same_key e) es)) (no_two same_key es) d in
+    let none = not-true (list_any (same_key e) es) both.0 in
+    let rest = own_once id es both.1 in
     elim (cases_Bool (e.0 == id)) [
       | inl t ↦ rw t
           (and_from (not (list_any (λ x. e.1.id == x.id) (events_of id es))) (no_two (λ x y. x.id == y.id) (events_of id es))
@@ -213,16 +203,11 @@ own_once id (e ∷ es) d =
 
 each_is : {A B : Type 0} (f : A → Option B) (xs : List A) → ((x : A) → (y : B) × (f x ≡ Some y)) → (ys : List B) × (each f xs ≡ Some ys)
 each_is f [] g = ([], refl)
-each_is f (x ∷ xs) g =
-    let y = g x in
-    let rest = each_is f xs g in
-    (y.0 ∷ rest.0, bind_is (f x) (λ u. each f xs >>= λ us. Some (u ∷ us)) y.0 (y.0 ∷ rest.0) y.1 (bind_is (each f xs) (λ us. Some (y.0 ∷ us)) rest.0 (y.0 ∷ rest.0) rest.1 refl))
+each_is f (x ∷ xs) g = let y = g x in let rest = each_is f xs g in (y.0 ∷ rest.0, rw (y.1, rest.1) refl)
 
 has_events : (es : List (ℕ × Event)) → no_two same_key es ≡ true → (s : Stream) → (t : Stream) × (with_events es s ≡ Some t)
 has_events es d s =
-    let own = numbers_order (λ e. e.id) (events_of s.id es) (own_once s.id es d) in
-    let t : Stream = record s { events = own.items } in
-    (t, bind_is (by_number (λ e. e.id) (events_of s.id es)) (λ xs. Some (record s { events = xs })) own.items t own.is refl)
+    let own = numbers_order (λ e. e.id) (events_of s.id es) (own_once s.id es d) in (record s { events = own.items }, rw own.is refl)
 
 all_true : {A : Type 0} (f : A → Bool) (P : A → Type 0) (xs : List A) → ((x : A) → P x → f x ≡ true) → AllByRecursion P xs → list_all f xs ≡ true
 all_true f P [] g all = refl
@@ -238,13 +223,7 @@ streams_are known ledger bs s e have =
     all_true (λ x. list_any (λ t. t.id == x.0) streams) (λ x. ContainsKey pair_cmp ledger.events (x.0, x.1.id)) e.made
     (λ x there. ordered.same (λ t. t.id == x.0) ∙ s.there x.0 (have (x.0, x.1.id) there)) e.noted
     in
-    let made = each_is (with_events e.made) streams (has_events e.made e.once) in (
-      made.0,
-      bind_is (each (stream_meaning known) (flat_map stream_in bs)) (λ found. by_number (λ x. x.id) found >>= λ ss. each (event_meaning known) (flat_map event_in bs) >>= λ events. provided (have_streams ss events) (each (with_events events) ss)) s.found.made made.0 s.found.mean
-          (bind_is (by_number (λ x. x.id) s.found.made) (λ ss. each (event_meaning known) (flat_map event_in bs) >>= λ events. provided (have_streams ss events) (each (with_events events) ss)) streams made.0 ordered.is
-          (bind_is (each (event_meaning known) (flat_map event_in bs)) (λ events. provided (have_streams streams events) (each (with_events events) streams)) e.made made.0 e.mean
-          (ap (λ (b : Bool). provided b (each (with_events e.made) streams)) all ∙ made.1))),
-    )
+    let made = each_is (with_events e.made) streams (has_events e.made e.once) in (made.0, rw (s.found.mean, ordered.is, e.mean, all) made.1)
 
 -- ---- the whole text
 
@@ -289,8 +268,8 @@ lacking (x ∷ xs) e =
       | inl t ↦
           let later : list_all has_sizes xs ≡ false = sym (ap (λ (b : Bool). b && list_all has_sizes xs) t) ∙ e in
           let l = lacking xs later in
-          (l.0, contains_later x l.0 xs l.1, l.2)
-      | inr f ↦ (x, contains_first x xs, f)
+          (l.0, Contains-append_right (x ∷ []) xs l.0 l.1, l.2)
+      | inr f ↦ (x, (0, omega arith, refl), f)
     ]
 
 -- where they mean nothing all the same, a stream lacks a size

@@ -1,6 +1,6 @@
 -- What the kinds, the brackets and the members of a structure mean in which no flaw is found.
-use Rattle.std.proofs.Common.{◌≡◌, ℕ, ◌+◌, ◌<◌, ◌%◌, ◌==◌, Bool, true, false, cond, ◌&&◌, List, [], ◌∷◌, ◌++◌, length, Option, Some, None, IsSome, Bor, ℤ, pos, negsuc, refl, sym, ap, ap₂, subst, ◌∙◌, arith, length-append, ◌*◌, ◌≤◌, ◌⊎◌, ◌^◌, max, inl, inr, not}
-use Rattle.tsdl_meaning.proofs.TextWords.{Adds, AddsAttribute, AreBrackets, AreRanges, Asked, Attribute, BTreeSet, Bracket, ByteOrder, Entries, Entry, Global, HaveNumbers, KeepsLimits, Known, Leaf, MemberTree, MemberType, NameLength, Number, ScopeRule, String, StructType, Structure, Value, align_of, align_with, and_from, and_true, are_distinct, are_lengths, attr, attr_names, base_value, bind_is, bind_some, bracketed, bytes_eq, clock_value, codes, count_of, default_align, each, elements_of, encoding_value, entries_of, entry_meaning, enum_meaning, eqb-true, flag_value, has_member, has_only, high_of, int_attrs, int_le, int_meaning, is_alignment, is_among, is_size, is_some, kind_meaning, le-leb, leb-true, length_place, list_all, list_any, ltb-true, member_meaning, members_meaning, nat_le, nat_lt, natural, natural_value, of_integer, of_string, option_map, option_map_or, order_value, order_words, own_asked, own_attrs, provided, provided_some, signed_of, some_same, string_attrs, struct_meaning, struct_type, suits_rule, text_meaning, tree_of, with_default, word_value, words_of, ◌>>=◌}
+use Rattle.std.proofs.Common.{◌≡◌, ℕ, ◌+◌, ◌<◌, ◌%◌, ◌==◌, Bool, true, false, ◌&&◌, List, ◌∷◌, ◌++◌, length, Option, Some, None, IsSome, Bor, ℤ, pos, negsuc, refl, sym, ap, ap₂, subst, ◌∙◌, arith, length-append, ◌*◌, ◌≤◌, ◌⊎◌, ◌^◌, max, inl, inr, not, []}
+use Rattle.tsdl_meaning.proofs.TextWords.{Adds, AddsAttribute, AreBrackets, AreRanges, Asked, Attribute, BTreeSet, Bracket, ByteOrder, Entries, Entry, Global, HaveNumbers, KeepsLimits, Known, Leaf, MemberTree, MemberType, NameLength, Number, ScopeRule, String, StructType, Structure, Value, align_of, align_with, and_from, and_true, are_distinct, are_lengths, attr, attr_names, base_value, bind_is, bind_some, bracketed, bytes_eq, clock_value, codes, cond_both, count_of, default_align, each, elements_of, encoding_value, entries_of, entry_meaning, enum_meaning, eqb-true, flag_value, has_member, has_only, high_of, int_attrs, int_le, int_meaning, is_alignment, is_among, is_size, is_some, kind_meaning, le-leb, leb-true, length_place, list_all, list_any, ltb-true, member_meaning, members_meaning, nat_le, nat_lt, natural, natural_value, of_integer, of_string, option_map, option_map_or, order_value, order_words, own_asked, own_attrs, provided, provided_some, signed_of, some_same, string_attrs, struct_meaning, struct_type, suits_rule, text_meaning, tree_of, with_default, word_value, words_of, ◌>>=◌, or-false}
 use Rattle.std.proofs.lemmas.Bool.Decides.{nat_tests}
 use Rattle.ctf_types.specs.declared.ByteOrder.TheVariants.{Little, Big}
 use Rattle.ctf_types.specs.declared.Base.TheVariants.{Dec}
@@ -10,9 +10,8 @@ use Rattle.tsdl_meaning.specs.declared.judge.kind.TypeKind.{TypeKind}
 use Rattle.tsdl_meaning.specs.declared.judge.kind.TypeKind.TheVariants as types
 use Rattle.tsdl_grammar.proofs.TypeParts.{int_type-own, struct_type-own}
 use Rattle.tsdl_meaning.proofs.FlawlessItems.{Attributes, attribute_more, all_one_more, passes_of, some_is, there_of, value_fits, default_is, option_is}
-use Rattle.tsdl_meaning.proofs.DistinctKeys.{or_false}
 use Rattle.tsdl_meaning.proofs.FlawlessFacts.{each_more}
-use Rattle.std.proofs.Math.Nat.{mul_assoc, mul-one, one-mul}
+use Rattle.tsdl_meaning.proofs.ElementCounts.{elements_behind}
 use Rattle.tsdl_flaw.specs.Limits as limits
 use Rattle.tsdl_flaw.specs.Limits.{depth, elements}
 use Rattle.tsdl_grammar.specs.declared.tree.Bracket.TheVariants as brackets
@@ -37,8 +36,8 @@ only_these allowed asked all names s = and_from (are_distinct (attr_names all)) 
 
 -- a word that is `native` is a byte order, whatever the trace's is
 native_word : (order : ByteOrder) (w : List ℕ) → list_any (bytes_eq w) (codes "native" ∷ []) ≡ true → list_any (bytes_eq w) (order_words order) ≡ true
-native_word Little w e = rw (sym (or_false (bytes_eq w (codes "native"))) ∙ e) refl
-native_word Big w e = rw (sym (or_false (bytes_eq w (codes "native"))) ∙ e) refl
+native_word Little w e = rw (sym (or-false (bytes_eq w (codes "native"))) ∙ e) refl
+native_word Big w e = rw (sym (or-false (bytes_eq w (codes "native"))) ∙ e) refl
 
 word_held : (order : ByteOrder) (o : Option (List ℕ)) → option_map_or (λ w. list_any (bytes_eq w) (codes "native" ∷ [])) o false ≡ true
     → is_some (o >>= λ w. provided (list_any (bytes_eq w) (order_words order)) (Some order)) ≡ true
@@ -51,17 +50,14 @@ native_is order v e = word_held order (word_value v) e
 
 -- ---- integers
 
-default_aligned : (size : ℕ) → (nat_lt 0 (default_align size) && (4096 % default_align size == 0)) ≡ true
-default_aligned size = by (size % 8 == 0)
-  where
-    by : (b : Bool) → (nat_lt 0 (cond b 8 1) && (4096 % cond b 8 1 == 0)) ≡ true
-    by true = refl
-    by false = refl
+-- a power of two up to 4,096
+abbrev is_power : ℕ → Bool
+is_power n = nat_lt 0 n && (4096 % n == 0)
 
-align_range : (size align : ℕ) (o : Option Value) → ((v : Value) → o ≡ Some v → is_alignment v ≡ true) → with_default (default_align size) natural_value o ≡ Some align
-    → (nat_lt 0 align && (4096 % align == 0)) ≡ true
-align_range size align None asks e = let same : default_align size ≡ align = cc in subst (λ (a : ℕ). (nat_lt 0 a && (4096 % a == 0)) ≡ true) same (default_aligned size)
-align_range size align (Some v) asks e = passes_of (λ n. nat_lt 0 n && (4096 % n == 0)) (natural_value v) align (asks v refl) e
+align_range : (size align : ℕ) (o : Option Value) → ((v : Value) → o ≡ Some v → is_alignment v ≡ true) → with_default (default_align size) natural_value o ≡ Some align → is_power align ≡ true
+align_range size align None asks e =
+    ap is_power (sym (some_same (default_align size) align (Some (default_align size)) refl e)) ∙ cond_both (size % 8 == 0) 8 1 (λ n. is_power n ≡ true) (λ _. refl) (λ _. refl)
+align_range size align (Some v) asks e = passes_of is_power (natural_value v) align (asks v refl) e
 
 integer_means : (known : Known) (attrs : List Attribute) (names : BTreeSet (String Global)) → Own int_attrs (of_integer known) attrs names → is_some (attr (codes "size") attrs) ≡ true
     → IsSome (int_meaning known attrs)
@@ -72,9 +68,9 @@ integer_means known attrs names s there =
     let given = some_is (attr (codes "size") attrs) there in
     let sized : is_size given.0 ≡ true = value_fits asked (codes "size") attrs given.0 all given.1 in
     let size = some_is (natural_value given.0) (there_of (λ n. nat_lt 0 n && nat_le n 64) (natural_value given.0) sized) in
-    let range : (nat_lt 0 size.0 && nat_le size.0 64) ≡ true = passes_of (λ n. nat_lt 0 n && nat_le n 64) (natural_value given.0) size.0 sized size.1 in
-    let align = default_is asked natural_value (codes "align") attrs all (λ v h. there_of (λ n. nat_lt 0 n && (4096 % n == 0)) (natural_value v) h) (default_align size.0) in
-    let aligned = align_range size.0 align.0 (attr (codes "align") attrs) (λ v e. value_fits asked (codes "align") attrs v all e) align.1 in
+    let range = and_true (nat_lt 0 size.0) (nat_le size.0 64) (passes_of (λ n. nat_lt 0 n && nat_le n 64) (natural_value given.0) size.0 sized size.1) in
+    let align = default_is asked natural_value (codes "align") attrs all (λ v h. there_of is_power (natural_value v) h) (default_align size.0) in
+    let aligned = and_true (nat_lt 0 align.0) (4096 % align.0 == 0) (align_range size.0 align.0 (attr (codes "align") attrs) (λ v e. value_fits asked (codes "align") attrs v all e) align.1) in
     let signed = default_is asked flag_value (codes "signed") attrs all (λ v h. h) false in
     let order = default_is asked (order_value known.order) (codes "byte_order") attrs all (λ v h. h) known.order in
     let base = default_is asked base_value (codes "base") attrs all (λ v h. h) Dec in
@@ -85,13 +81,12 @@ integer_means known attrs names s there =
       signed = signed.0;
       base = base.0;
       clock = clock.0;
-      not_empty = ltb-true 0 size.0 (and_true (nat_lt 0 size.0) (nat_le size.0 64) range).0;
-      at_most_64 = leb-true size.0 64 (and_true (nat_lt 0 size.0) (nat_le size.0 64) range).1;
-      positive = ltb-true 0 align.0 (and_true (nat_lt 0 align.0) (4096 % align.0 == 0) aligned).0;
-      power_of_two = eqb-true (4096 % align.0) 0 (and_true (nat_lt 0 align.0) (4096 % align.0 == 0) aligned).1;
+      not_empty = ltb-true 0 size.0 range.0;
+      at_most_64 = leb-true size.0 64 range.1;
+      positive = ltb-true 0 align.0 aligned.0;
+      power_of_two = eqb-true (4096 % align.0) 0 aligned.1;
     } in
-    let one : (attr (codes "size") attrs >>= natural_value) ≡ Some size.0 = ap (λ (o : Option Value). o >>= natural_value) given.1 ∙ size.1 in
-    rw (only_these int_attrs asked attrs names s, one, align.1, signed.1, order.1, base.1, clock.1, int_type-own t) refl
+    rw (only_these int_attrs asked attrs names s, given.1, size.1, align.1, signed.1, order.1, base.1, clock.1, int_type-own t) refl
 
 -- ---- enumerations
 
@@ -166,13 +161,6 @@ seen None p e h = absurd cc
 seen (Some v) p e h = ap is_some (sym e)
 
 -- ---- brackets
-
-elements_behind : (ns : List ℕ) (n : ℕ) → elements_of (ns ++ n ∷ []) ≡ elements_of ns * max n 1
-elements_behind [] n = mul-one (max 1 n) ∙ turned ∙ sym (one-mul (max n 1))
-  where
-    turned : max 1 n ≡ max n 1
-    turned = omega arith
-elements_behind (m ∷ ns) n = ap (λ (k : ℕ). max 1 m * k) (elements_behind ns n) ∙ sym (mul_assoc (max 1 m) (elements_of ns) (max n 1))
 
 all_bits : (ns : List ℕ) (n : ℕ) → list_all (nat_lt 0) ns ≡ true → 0 < n → list_all (nat_lt 0) (ns ++ n ∷ []) ≡ true
 all_bits ns n all some =
@@ -312,17 +300,11 @@ more_mean : (known : Known) (before : List (List ℕ × MemberType)) (trees : Li
     → members_meaning known before (trees ++ tree ∷ []) ≡ Some (members ++ (tree.name, t) ∷ [])
 unfolding members_meaning
 more_mean known before [] members tree t e fresh meant =
-    let same : members ≡ before = some_same members before (Some before) e refl in
-    let one : provided (not (has_member tree.name before)) (member_meaning known before tree) ≡ Some t =
-    subst (λ (ms : List (List ℕ × MemberType)). provided (not (has_member tree.name ms)) (member_meaning known ms tree) ≡ Some t) same (ap (λ (b : Bool). provided (not b) (member_meaning known members tree)) fresh ∙ meant)
-    in
-    bind_is (provided (not (has_member tree.name before)) (member_meaning known before tree)) (λ u. Some (before ++ (tree.name, u) ∷ [])) t (members ++ (tree.name, t) ∷ []) one
-    (ap (λ (ms : List (List ℕ × MemberType)). Some (ms ++ (tree.name, t) ∷ [])) (sym same))
+    let made : members_meaning known members (tree ∷ []) ≡ Some (members ++ (tree.name, t) ∷ []) = rw (fresh, meant) refl in
+    subst (λ (ms : List (List ℕ × MemberType)). members_meaning known ms (tree ∷ []) ≡ Some (members ++ (tree.name, t) ∷ [])) (some_same members before (Some before) e refl) made
 more_mean known before (x ∷ trees) members tree t e fresh meant =
-    let first = provided (not (has_member x.name before)) (member_meaning known before x) in
-    let a = bind_some first (λ u. members_meaning known (before ++ (x.name, u) ∷ []) trees) members e in
-    bind_is first (λ u. members_meaning known (before ++ (x.name, u) ∷ []) (trees ++ tree ∷ [])) a.0 (members ++ (tree.name, t) ∷ []) a.1
-    (more_mean known (before ++ (x.name, a.0) ∷ []) trees members tree t a.2 fresh meant)
+    let a = bind_some (provided (not (has_member x.name before)) (member_meaning known before x)) (λ u. members_meaning known (before ++ (x.name, u) ∷ []) trees) members e in
+    rw a.1 (more_mean known (before ++ (x.name, a.0) ∷ []) trees members tree t a.2 fresh meant)
 
 pub one_more : (known : Known) (rule : ScopeRule) (trees : List MemberTree) (before after : List (List ℕ × MemberType)) (tree : MemberTree) → AreFlawless known rule trees before
     → AddsMember known rule before tree after → AreFlawless known rule (trees ++ tree ∷ []) after
@@ -343,50 +325,28 @@ pub none_flawless : (known : Known) (rule : ScopeRule) (members : List (List ℕ
 unfolding members_meaning
 none_flawless known rule members e = subst (AreFlawless known rule []) (sym e) (record { few = omega arith; counted = refl; mean = refl; suit = refl })
 
--- a number that is an alignment in range
-aligned : (n : ℕ) → (nat_lt 0 n && (4096 % n == 0)) ≡ true → (nat_lt 0 n ≡ true) × ((4096 % n == 0) ≡ true)
-aligned n e = both (nat_lt 0 n) (4096 % n == 0) e
-  where
-    both : (a b : Bool) → (a && b) ≡ true → (a ≡ true) × (b ≡ true)
-    both true b e = (refl, e)
-    both false b e = absurd cc
-
 -- the alignment of a structure is in range
-in_range : (o : Option Number) (a : ℕ) → align_of o ≡ Some a → (nat_lt 0 a ≡ true) × ((4096 % a == 0) ≡ true)
-in_range None a e = let one : 1 ≡ a = some_same 1 a (Some 1) refl e in subst (λ (n : ℕ). (nat_lt 0 n ≡ true) × ((4096 % n == 0) ≡ true)) one (refl, refl)
+in_range : (o : Option Number) (a : ℕ) → align_of o ≡ Some a → is_power a ≡ true
+in_range None a e = ap is_power (sym (some_same 1 a (Some 1) refl e))
 in_range (Some number) a e =
-    let b = bind_some (natural number) (λ n. provided (nat_lt 0 n && (4096 % n == 0)) (Some n)) a e in
-    let c = provided_some (nat_lt 0 b.0 && (4096 % b.0 == 0)) (Some b.0) a b.2 in
-    subst (λ (n : ℕ). (nat_lt 0 n ≡ true) × ((4096 % n == 0) ≡ true)) (some_same b.0 a (Some b.0) refl c.1) (aligned b.0 c.0)
+    let b = bind_some (natural number) (λ n. provided (is_power n) (Some n)) a e in
+    let c = provided_some (is_power b.0) (Some b.0) a b.2 in
+    ap is_power (sym (some_same b.0 a (Some b.0) refl c.1)) ∙ c.0
 
 -- and so is the one that it has with its members
-in_range_with : (members : List (List ℕ × MemberType)) (a : ℕ) → (nat_lt 0 a ≡ true) × ((4096 % a == 0) ≡ true)
-    → (nat_lt 0 (align_with members a) ≡ true) × ((4096 % align_with members a == 0) ≡ true)
-in_range_with [] a h = (refl, refl)
+in_range_with : (members : List (List ℕ × MemberType)) (a : ℕ) → is_power a ≡ true → is_power (align_with members a) ≡ true
+in_range_with [] a h = refl
 in_range_with (m ∷ ms) a h = h
-
-pub some_of : {A : Type 0} (o : Option A) → IsSome o → (x : A) × (o ≡ Some x)
-some_of (Some x) h = (x, refl)
-some_of None h = absurd cc
 
 -- all the members and the alignment
 pub all_flawless : (known : Known) (rule : ScopeRule) (s : Structure) (members : List (List ℕ × MemberType)) → AreFlawless known rule s.members members → IsSome (align_of s.align)
     → IsFlawless known rule s
 unfolding struct_meaning
 all_flawless known rule s members f is =
-    let aligned_at = some_of (align_of s.align) is in
-    let align = aligned_at.0 in
-    let e = aligned_at.1 in
-    let a = align_with members align in
-    let r = in_range_with members align (in_range s.align align e) in
+    let align = some_is (align_of s.align) is in
+    let a = align_with members align.0 in
+    let r = and_true (nat_lt 0 a) (4096 % a == 0) (in_range_with members align.0 (in_range s.align align.0 align.1)) in
     let meant : StructType = record { members = members; min_align = a; positive = ltb-true 0 a r.0; power_of_two = eqb-true (4096 % a) 0 r.1 } in
     let m = f.few in let n = f.counted in
     let few : nat_le (length s.members) 1024 ≡ true = grind (arith, nat_tests) in
-    record {
-      meant = meant;
-      means =
-          bind_is (provided (nat_le (length s.members) 1024) (members_meaning known [] s.members)) (λ ms. align_of s.align >>= λ n. struct_type ms (align_with ms n)) members meant
-          (ap (λ (b : Bool). provided b (members_meaning known [] s.members)) few ∙ f.mean)
-          (bind_is (align_of s.align) (λ n. struct_type members (align_with members n)) align meant e (struct_type-own meant));
-      suit = f.suit;
-    }
+    record { meant = meant; means = rw (few, f.mean) (bind_is (align_of s.align) (λ n. struct_type members (align_with members n)) align.0 meant align.1 (struct_type-own meant)); suit = f.suit }

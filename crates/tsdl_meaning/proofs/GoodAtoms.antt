@@ -1,6 +1,6 @@
 -- What the tokens of a text mean: each word is a name that metadata may have, and each number has 64 bits.
-use Rattle.std.proofs.Common.{◌≡◌, ℕ, suc, ◌+◌, ◌<◌, ◌^◌, Bool, true, false, cond, not, ◌&&◌, ◌||◌, ltb, List, [], ◌∷◌, ◌++◌, take, drop, Option, Some, None, refl, sym, ap, subst, ◌∙◌, arith}
-use Rattle.tsdl_meaning.proofs.TextWords.{AllByRecursion, Atom, IsMetadataName, and_true, bytes_eq, is_digit, is_identifier, is_letter, is_read, is_utf8, list_all, list_any, ltb-true, not-true, option_and_then, option_map, prefix_len, unused_keywords, ◌==◌}
+use Rattle.std.proofs.Common.{◌≡◌, ℕ, suc, ◌+◌, ◌<◌, ◌^◌, Bool, true, false, cond, not, ◌&&◌, ◌||◌, ltb, List, ◌∷◌, ◌++◌, take, drop, Option, Some, None, refl, sym, ap, subst, ◌∙◌, arith, []}
+use Rattle.tsdl_meaning.proofs.TextWords.{AllByRecursion, Atom, IsMetadataName, and_true, bytes_eq, is_digit, is_identifier, is_letter, is_read, is_utf8, list_all, list_any, ltb-true, not-true, option_and_then, option_map, prefix_len, unused_keywords, ◌==◌, cond_both}
 use Rattle.std.specs.Char.{is_ascii_digit}
 use Rattle.std.proofs.lemmas.Bool.Decides.{nat_tests}
 use Rattle.std.proofs.lemmas.List.Folds.{list_all-append}
@@ -48,18 +48,12 @@ letter_of_start b h = grind (arith, nat_tests)
 name_byte_of : (b : ℕ) → is_name_byte b ≡ true → (is_letter b || is_digit b) ≡ true
 name_byte_of b h = grind (arith, nat_tests)
 
-either : {A : Type 0} (P : A → Type 0) (b : Bool) (x y : A) → (b ≡ true → P x) → (b ≡ false → P y) → P (cond b x y)
-either P true x y f g = f refl
-either P false x y f g = g refl
-
 -- the run in front passes
 run_passes : (p q : ℕ → Bool) → ((b : ℕ) → p b ≡ true → q b ≡ true) → (bytes : List ℕ) → list_all q (take (prefix_len p bytes) bytes) ≡ true
 run_passes p q h [] = refl
-run_passes p q h (b ∷ bytes) = by (p b) (h b) (run_passes p q h bytes)
-  where
-    by : (c : Bool) → (c ≡ true → q b ≡ true) → list_all q (take (prefix_len p bytes) bytes) ≡ true → list_all q (take (cond c (1 + prefix_len p bytes) 0) (b ∷ bytes)) ≡ true
-    by true f e = let s : 1 + prefix_len p bytes ≡ suc (prefix_len p bytes) = omega arith in rw s (rw (f refl) e)
-    by false f e = refl
+run_passes p q h (b ∷ bytes) =
+    cond_both (p b) (1 + prefix_len p bytes) 0 (λ n. list_all q (take n (b ∷ bytes)) ≡ true)
+    (λ t. let s : 1 + prefix_len p bytes ≡ suc (prefix_len p bytes) = omega arith in rw s (rw (h b t) (run_passes p q h bytes))) (λ _. refl)
 
 named : (b : ℕ) (bytes : List ℕ) → is_name_start b ≡ true → is_identifier (take (1 + prefix_len is_name_byte bytes) (b ∷ bytes)) ≡ true
 unfolding is_identifier
@@ -80,14 +74,15 @@ abbrev IsNamedAt : List ℕ → Option Cut → Type 0
 IsNamedAt bytes None = Unit {0}
 IsNamedAt bytes (Some c) = IsNamed bytes c.piece c.len
 
+mapped : {A : Type 0} (whole : List ℕ) (f : A → Cut) (o : Option A) → ((x : A) → IsNamed whole (f x).piece (f x).len) → IsNamedAt whole (option_map f o)
+mapped whole f None h = tt
+mapped whole f (Some x) h = h x
+
 comment_named : (whole bytes : List ℕ) → IsNamedAt whole (comment_at bytes)
 unfolding comment_at
 comment_named whole [] = tt
-comment_named whole (b ∷ bytes) = either (IsNamedAt whole) (b == 47) _ _ (λ _. tt) (λ _. either (IsNamedAt whole) (b == 42) _ None (λ _. by (close_len bytes)) (λ _. tt))
-  where
-    by : (o : Option ℕ) → IsNamedAt whole (option_map (λ n. cut pieces.Comment (2 + n)) o)
-    by None = tt
-    by (Some n) = tt
+comment_named whole (b ∷ bytes) =
+    cond_both (b == 47) _ _ (IsNamedAt whole) (λ _. tt) (λ _. cond_both (b == 42) _ None (IsNamedAt whole) (λ _. mapped whole (λ n. cut pieces.Comment (2 + n)) (close_len bytes) (λ n. tt)) (λ _. tt))
 
 text_named : (whole bytes : List ℕ) → IsNamedAt whole (text_at bytes)
 unfolding text_at
@@ -95,27 +90,26 @@ text_named whole bytes = by (content_len false bytes)
   where
     by : (o : Option ℕ) → IsNamedAt whole (option_and_then (λ n. cond (is_utf8 (take n bytes)) (Some (cut (pieces.Token kinds.Text) (2 + n))) None) o)
     by None = tt
-    by (Some n) = either (IsNamedAt whole) (is_utf8 (take n bytes)) _ None (λ _. tt) (λ _. tt)
+    by (Some n) = cond_both (is_utf8 (take n bytes)) _ None (IsNamedAt whole) (λ _. tt) (λ _. tt)
 
 one_mark_named : (whole : List ℕ) (o : Option Mark) → IsNamedAt whole (option_map (λ m. mark_cut m 1) o)
-one_mark_named whole None = tt
-one_mark_named whole (Some m) = tt
+one_mark_named whole o = mapped whole (λ m. mark_cut m 1) o (λ m. tt)
 
 mark_named : (whole : List ℕ) (b : ℕ) (bytes : List ℕ) → IsNamedAt whole (mark_at b bytes)
 unfolding mark_at
 mark_named whole b [] = one_mark_named whole (one_byte_mark b)
-mark_named whole b (c ∷ []) = either (IsNamedAt whole) (b == 58 && c == 61) _ _ (λ _. tt) (λ _. one_mark_named whole (one_byte_mark b))
+mark_named whole b (c ∷ []) = cond_both (b == 58 && c == 61) _ _ (IsNamedAt whole) (λ _. tt) (λ _. one_mark_named whole (one_byte_mark b))
 mark_named whole b (c ∷ d ∷ bytes) =
-    either (IsNamedAt whole) (b == 58 && c == 61) _ _ (λ _. tt)
-    (λ _. either (IsNamedAt whole) (b == 46 && c == 46 && d == 46) _ _ (λ _. tt) (λ _. one_mark_named whole (one_byte_mark b)))
+    cond_both (b == 58 && c == 61) _ _ (IsNamedAt whole) (λ _. tt)
+    (λ _. cond_both (b == 46 && c == 46 && d == 46) _ _ (IsNamedAt whole) (λ _. tt) (λ _. one_mark_named whole (one_byte_mark b)))
 
 piece_named : (bytes : List ℕ) → IsNamedAt bytes (piece_at bytes)
 unfolding piece_at
 piece_named [] = tt
 piece_named (b ∷ bytes) =
     let P : Option Cut → Type 0 = IsNamedAt (b ∷ bytes) in
-    either P (is_blank b) _ _ (λ _. tt) (λ _. either P (is_name_start b) _ _ (λ h. named b bytes h) (λ _. either P (is_ascii_digit b) _ _ (λ _. tt)
-    (λ _. either P (b == 34) _ _ (λ _. text_named (b ∷ bytes) bytes) (λ _. either P (b == 47) _ _ (λ _. comment_named (b ∷ bytes) bytes) (λ _. mark_named (b ∷ bytes) b bytes)))))
+    cond_both (is_blank b) _ _ P (λ _. tt) (λ _. cond_both (is_name_start b) _ _ P (λ h. named b bytes h) (λ _. cond_both (is_ascii_digit b) _ _ P (λ _. tt)
+    (λ _. cond_both (b == 34) _ _ P (λ _. text_named (b ∷ bytes) bytes) (λ _. cond_both (b == 47) _ _ P (λ _. comment_named (b ∷ bytes) bytes) (λ _. mark_named (b ∷ bytes) b bytes)))))
 
 -- ---- atoms
 
@@ -126,10 +120,10 @@ good_word true bytes h r =
 good_word false bytes h r = (tt, tt)
 
 good_number : (n : ℕ) → AreGood (number_atom n ∷ [])
-good_number n = (either IsGood (ltb n (2 ^ 64)) (atoms.Number n) atoms.TooLarge (λ h. ltb-true n (2 ^ 64) h) (λ _. tt), tt)
+good_number n = (cond_both (ltb n (2 ^ 64)) (atoms.Number n) atoms.TooLarge IsGood (λ h. ltb-true n (2 ^ 64) h) (λ _. tt), tt)
 
 good_text : (content : List ℕ) → AreGood (text_atom content ∷ [])
-good_text content = (either IsGood (is_utf8 (unescaped content)) (atoms.Text (unescaped content)) atoms.TooLarge (λ _. tt) (λ _. tt), tt)
+good_text content = (cond_both (is_utf8 (unescaped content)) (atoms.Text (unescaped content)) atoms.TooLarge IsGood (λ _. tt) (λ _. tt), tt)
 
 good_piece : (p : Piece) (bytes : List ℕ) (len : ℕ) → IsNamed bytes p len → list_all is_read (piece_atoms p (take len bytes)) ≡ true → AreGood (piece_atoms p (take len bytes))
 good_piece pieces.Blank bytes len n r = tt

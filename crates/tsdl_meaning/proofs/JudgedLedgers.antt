@@ -1,5 +1,5 @@
 -- What a ledger has of the blocks before a place, and flaws where a text ends.
-use Rattle.std.proofs.Common.{◌≡◌, ℕ, Bool, true, cond, List, [], ◌∷◌, ◌++◌, refl, Option, Some, sym, ap, ◌∙◌, subst, inl, inr, bytes_eq, ◌≤◌, ◌⊎◌, length, arith}
+use Rattle.std.proofs.Common.{◌≡◌, ℕ, Bool, true, cond, List, ◌∷◌, ◌++◌, refl, Option, Some, sym, ap, ◌∙◌, subst, inl, inr, bytes_eq, ◌≤◌, ◌⊎◌, length, arith, []}
 use Rattle.std.proofs.lemmas.Map.Lookups.{exact_unsigned, exact_pairs}
 use Rattle.tsdl_meaning.proofs.TextWords.{AllByRecursion, AreNoted, Atom, BTreeMap, BTreeSet, ContainsKey, Equal-is, Global, HasClock, HasEvent, HasNumbers, Holds, IfSizesMissed, IsSome, IsWrong, Item, Ledger, Stop, StopsIn, String, append-nil, block_toks, bytes_eq-Decides, cases_Bool, clock_name, contains, contains_text, get, is_at, is_eq, is_some, kind_of, most, nat_cmp, pair_cmp}
 use Rattle.std.specs.Map.{lookup}

@@ -1,5 +1,5 @@
 -- A stop in a part of a tree is a stop in the tree, and what a judge hands on from a part.
-use Rattle.std.proofs.Common.{◌≡◌, ℕ, suc, ◌+◌, ◌<◌, min, arith, Bool, true, false, ◌||◌, List, [], ◌∷◌, ◌++◌, length, take, drop, get_or, refl, sym, ap, ◌∙◌, subst, inl, inr, append_assoc, Result, Ok, Err}
+use Rattle.std.proofs.Common.{◌≡◌, ℕ, suc, ◌+◌, ◌<◌, min, arith, Bool, true, false, ◌||◌, List, ◌∷◌, ◌++◌, length, take, drop, get_or, refl, sym, ap, ◌∙◌, subst, inl, inr, append_assoc, Result, Ok, Err, []}
 use Rattle.tsdl_meaning.proofs.TextWords.{Atom, Ends, HasLength, Holds, IfErr, IfOk, IsErrAnd, StandsBehind, Stop, StopsAmong, StopsIn, StopsWhere, append-nil, cases_Bool, flat_map, list_any, most, stops_after, stops_item}
 
 -- ---- answers
@@ -9,17 +9,9 @@ pub handed : {T : Type 0} (r : Result T Stop) (e : Stop) (Q : Stop → Type 0) �
 handed (Ok v) e Q is h = absurd is
 handed (Err s) e Q is h = subst Q (sym is) h
 
-pub err_from : {T : Type 0} (r : Result T Stop) (P Q : Stop → Type 0) → ((s : Stop) → P s → Q s) → IfErr r P → IfErr r Q
-err_from (Ok v) P Q f h = tt
-err_from (Err s) P Q f h = f s h
-
 pub ok_from : {T : Type 0} (r : Result T Stop) (Q : T → Type 0) → ((x : T) → Q x) → IfOk r Q
 ok_from (Ok v) Q f = f v
 ok_from (Err s) Q f = tt
-
-pub ok_map : {T : Type 0} (r : Result T Stop) (P Q : T → Type 0) → ((x : T) → P x → Q x) → IfOk r P → IfOk r Q
-ok_map (Ok v) P Q f h = f v h
-ok_map (Err s) P Q f h = tt
 
 -- ---- fronts
 

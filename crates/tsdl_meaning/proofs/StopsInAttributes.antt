@@ -1,6 +1,6 @@
 -- Names that have stood before, and a stop in a part of an attribute.
-use Rattle.std.proofs.Common.{◌≡◌, ℕ, ◌+◌, List, [], ◌∷◌, ◌++◌, map, length, min, sym, ◌∙◌, arith, append_assoc, length-append, ◌≤◌, true, false, ◌||◌, refl, inl}
-use Rattle.tsdl_meaning.proofs.TextWords.{AreNamed, Atom, Attribute, BTreeSet, Global, HasLength, HasNames, IsNameTwice, IsNamed, Item, Name, Stop, StopsIn, String, attr_in, attr_toks, bytes_eq, bytes_eq-Decides, contains_text, dotted, flat_map, item_toks, list_any, mark, most, name_toks, scope_in, stops_after, struct_toks, value_toks, word, written}
+use Rattle.std.proofs.Common.{◌≡◌, ℕ, ◌+◌, List, ◌∷◌, ◌++◌, map, length, min, sym, ◌∙◌, arith, append_assoc, length-append, ◌≤◌, true, false, ◌||◌, refl, inl, []}
+use Rattle.tsdl_meaning.proofs.TextWords.{AreNamed, Atom, Attribute, BTreeSet, Global, HasLength, HasNames, IsNameTwice, IsNamed, Item, Name, Stop, StopsIn, String, attr_in, attr_toks, bytes_eq, bytes_eq-Decides, contains_text, dotted, flat_map, item_toks, list_any, mark, most, name_toks, scope_in, stops_after, struct_toks, value_toks, word, written, or-false}
 use Rattle.tsdl_grammar.specs.declared.token.Mark.TheVariants as marks
 use Rattle.tsdl_grammar.specs.declared.tree.Item.TheVariants as items
 use Rattle.tsdl_grammar.specs.declared.token.Mark.{Mark}
@@ -8,7 +8,6 @@ use Rattle.tsdl_flaw.specs.declared.flaw.Flaw.TheVariants as flaws
 use Rattle.tsdl_flaw.specs.declared.flaw.Stop.TheVariants as stops
 use Rattle.tsdl_flaw.proofs.Stops as stop_parts
 use Rattle.tsdl_meaning.proofs.Fronts.{any_mapped, any_part}
-use Rattle.tsdl_meaning.proofs.DistinctKeys.{or_false}
 use Rattle.tsdl_meaning.proofs.JudgedParts.{holds_among, holds_part, item_there}
 
 -- each name of a set stands with its mark among the items of which it names a part
@@ -24,7 +23,7 @@ are_named {A} {B} toks part named sign front opening names all own has w there =
     (n.0, n.1, holds_part whole (toks found.0) (name_toks n.0 ++ mark sign ∷ []) (holds_among whole opening (flat_map toks all) (toks found.0) (front, refl) found.2) n.2)
 
 written_so : (w : List ℕ) (n : Name) → (bytes_eq w (written n) || false) ≡ true → written n ≡ w
-written_so w n e = sym ((bytes_eq-Decides w (written n)).0 (sym (or_false (bytes_eq w (written n))) ∙ e))
+written_so w n e = sym ((bytes_eq-Decides w (written n)).0 (sym (or-false (bytes_eq w (written n))) ∙ e))
 
 pub attribute_named : (a : Attribute) (w : List ℕ) → (bytes_eq w (written a.name) || false) ≡ true → IsNamed (attr_toks a) marks.Equals w
 attribute_named a w e = (a.name, written_so w a.name e, ([], value_toks a.value ++ mark marks.Semicolon ∷ [], simp append_assoc))

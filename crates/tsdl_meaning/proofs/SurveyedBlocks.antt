@@ -1,6 +1,6 @@
 -- What is noted of the blocks of a text is what its integers have to know.
-use Rattle.std.proofs.Common.{◌≡◌, ℕ, Bool, true, false, not, ◌&&◌, List, [], ◌∷◌, ◌++◌, map, Option, Some, None, refl, sym, ap, ap₂, subst, ◌∙◌, inl, inr}
-use Rattle.tsdl_meaning.proofs.TextWords.{Attribute, Block, ByteOrder, ClockType, Item, Known, Surveys, Value, and_true, are_distinct, attr, attr_names, attrs_in, bind_some, cases_Bool, clock_meaning, codes, each, first_of, flat_map, is_word, list_any, listed, meant_by, name_of, name_value, not-true, only, option_or, or_parts, order_of, order_table, orders_in, same_words, some_same, trace_in, trace_order, unwrap_or, word_value, words_of, ◌>>=◌}
+use Rattle.std.proofs.Common.{◌≡◌, ℕ, true, false, not, List, ◌∷◌, ◌++◌, map, Option, Some, None, refl, sym, ap, ap₂, subst, ◌∙◌, inl, inr, []}
+use Rattle.tsdl_meaning.proofs.TextWords.{Attribute, Block, ByteOrder, ClockType, Item, Known, Surveys, Value, and_true, are_distinct, attr, attr_names, attrs_in, bind_some, cases_Bool, clock_meaning, codes, each, first_of, flat_map, is_word, list_any, listed, meant_by, name_of, name_value, not-true, only, option_or, or_parts, order_of, order_table, orders_in, same_words, some_same, trace_in, trace_order, unwrap_or, word_value, words_of, ◌>>=◌, false_from_ne_true}
 use Rattle.ctf_types.specs.declared.ByteOrder.TheVariants.{Little}
 use Rattle.tsdl_grammar.specs.Denotes.{clock_in}
 use Rattle.tsdl_grammar.proofs.BlockParts.{says_clock}
@@ -12,10 +12,8 @@ use Rattle.tsdl_meaning.proofs.FlawlessItems.{same_words-is}
 -- words that are not those are not these
 sym_words : (xs ys : List (List ℕ)) → same_words ys xs ≡ false → same_words xs ys ≡ false
 sym_words xs ys e =
-    elim (cases_Bool (same_words xs ys)) [
-      | inr f ↦ f
-      | inl t ↦ absurd (let same : same_words ys xs ≡ same_words xs ys = ap₂ (λ (a b : List (List ℕ)). same_words a b) (sym (same_words-is xs ys t)) (same_words-is xs ys t) in cc)
-    ]
+    false_from_ne_true (same_words xs ys)
+    (λ t. let is = same_words-is xs ys t in let same : same_words ys xs ≡ same_words xs ys = ap₂ (λ (a b : List (List ℕ)). same_words a b) (sym is) is in cc)
 
 -- ---- the byte order
 
@@ -76,15 +74,10 @@ one_named (a ∷ attrs) name d e =
           ∙ one_named attrs name (and_true (not (list_any (same_words (words_of a.name)) (attr_names attrs))) (are_distinct (attr_names attrs)) d).1 later
     ]
 
--- the attributes of a block stand once
-attrs_once : (a b c : Bool) → (a && b && c) ≡ true → a ≡ true
-attrs_once true b c e = refl
-attrs_once false b c e = absurd cc
-
 clock_named : (is : List Item) (c : ClockType) → clock_meaning is ≡ Some c → names_in is ≡ c.name ∷ []
 clock_named is c e =
     let says = says_clock is c e in
-    one_named (attrs_in is) c.name (attrs_once (are_distinct (attr_names (attrs_in is))) _ _ says.once) says.name
+    one_named (attrs_in is) c.name (and_true (are_distinct (attr_names (attrs_in is))) _ (and_true _ _ says.once).0).0 says.name
 
 pub noted_names : (clocks : List (List Item)) (types : List ClockType) → each clock_meaning clocks ≡ Some types → flat_map names_in clocks ≡ map (λ c. c.name) types
 noted_names [] types e = ap (map (λ (c : ClockType). c.name)) (some_same [] types (Some []) refl e)

@@ -1,10 +1,10 @@
 -- A word that is none of a table's stands for nothing, and an identifier that a text parses from is an option.
-use Rattle.std.proofs.Common.{◌≡◌, ℕ, false, List, [], ◌∷◌, None, refl, sym, inl, inr, bytes_eq, ◌↔◌, Option, Some, Result, Ok, Err, IsOk, IfOk}
-use Rattle.tsdl_meaning.proofs.TextWords.{bytes_eq-Decides, cases_Bool, false≢true, meant_by, result_ok}
+use Rattle.std.proofs.Common.{◌≡◌, ℕ, false, List, ◌∷◌, None, refl, sym, bytes_eq, ◌↔◌, Option, Some, Result, Ok, Err, IsOk, IfOk, []}
+use Rattle.tsdl_meaning.proofs.TextWords.{bytes_eq-Decides, false≢true, meant_by, result_ok, false_from_ne_true}
 use Rattle.uuid.specs.declared.error.Error.{Error}
 
 pub other_word : (a b : List ℕ) → (b ≡ a → ⊥) → bytes_eq a b ≡ false
-other_word a b h = elim (cases_Bool (bytes_eq a b)) [ inr e ↦ e | inl e ↦ absurd (h (sym ((bytes_eq-Decides a b).0 e))) ]
+other_word a b h = false_from_ne_true (bytes_eq a b) (λ e. h (sym ((bytes_eq-Decides a b).0 e)))
 
 -- the word is none of the rows'
 abbrev pub IsAbsent : {A : Type 0} → List (List ℕ × A) → List ℕ → Type 0

@@ -1,20 +1,15 @@
 -- What stands before a place where a tree is judged.
-use Rattle.std.specs.Prelude.{ℕ, ◌⊎◌, List, [], ◌∷◌, ◌++◌, codes}
+use Rattle.std.specs.Prelude.{ℕ, ◌⊎◌, List, [], ◌∷◌, codes}
 use Rattle.tsdl_grammar.specs.declared.token.Mark.TheVariants as marks
 use Rattle.tsdl_grammar.specs.declared.atom.Atom.{Atom}
-use Rattle.tsdl_grammar.specs.declared.tree.Name.{Name}
-use Rattle.tsdl_grammar.specs.Spelling.{mark, word, name_toks}
+use Rattle.tsdl_grammar.specs.Spelling.{mark, word}
 use Rattle.tsdl_flaw.specs.Fronts.{Ends}
 
 -- `align =` or `align (` stands right before the place
 abbrev pub IsBehindAlign : List Atom → Type 0
 IsBehindAlign front = Ends front (word (codes "align") ∷ mark marks.Equals ∷ []) ⊎ Ends front (word (codes "align") ∷ mark marks.OpenParenthesis ∷ [])
 
--- the name of an attribute and `=` stand right before the place
-abbrev pub IsBehindName : Name → List Atom → Type 0
-IsBehindName n front = Ends front (name_toks n ++ mark marks.Equals ∷ [])
-
--- the same of a name of one word
+-- the name of an attribute, one word, and `=` stand right before the place
 abbrev pub IsBehindWord : List ℕ → List Atom → Type 0
 IsBehindWord w front = Ends front (word w ∷ mark marks.Equals ∷ [])
 

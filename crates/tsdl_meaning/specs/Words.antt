@@ -72,7 +72,7 @@ pub use Rattle.tsdl_meaning.specs.FlawlessTypes.{AreRanges, is_alignment, is_siz
 pub use Rattle.tsdl_meaning.specs.Fronts.{with_front}
 pub use Rattle.tsdl_meaning.specs.Groups.{AddsEvent, OthersStay, group_of, with_group, with_own}
 pub use Rattle.tsdl_meaning.specs.Judged.{EndsFacts, IsAttribute, StopsAmong, StopsWhere}
-pub use Rattle.tsdl_meaning.specs.Judging.{IsBehindAlign, IsBehindBrace, IsBehindName, IsBehindWord}
+pub use Rattle.tsdl_meaning.specs.Judging.{IsBehindAlign, IsBehindBrace, IsBehindWord}
 pub use Rattle.tsdl_meaning.specs.Ledgers.{AreNoted, HasClock, HasEvent, HasStream, pair_cmp}
 pub use Rattle.tsdl_meaning.specs.Members.{IsLengthAt, text_leaf}
 pub use Rattle.tsdl_meaning.specs.MembersBefore.{AreMembers, IsBehindKind, IsBehindMembers}

@@ -37,19 +37,11 @@ pub(crate) fn are_lengths(lengths: &[u64]) -> bool
 fn are_few(lengths: &[u64]) -> bool
     ensures { result ≡ nat_le (elements_of lengths.now) (2 ^ 20) }
 {
-    let mut elements = 1;
-    let mut rest = lengths;
-    while let [length, others @ ..] = rest {
-        if *length > MAX_ELEMENTS {
-            return false;
-        }
-        elements *= (*length).max(1);
-        if elements > MAX_ELEMENTS {
-            return false;
-        }
-        rest = others;
+    let mut elements = 1u64;
+    for length in lengths {
+        elements = elements.saturating_mul((*length).max(1));
     }
-    true
+    elements <= MAX_ELEMENTS
 }
 
 /// Whether none of the lengths is 0.

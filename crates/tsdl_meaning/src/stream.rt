@@ -33,7 +33,8 @@ pub(crate) fn stream_meaning(alloc: Global, known: &Known, items: &[Item]) -> Me
     let context = meant!(scope_meaning(alloc, known, PACKET_CONTEXT, items)?);
     let event_header = meant!(scope_meaning(alloc, known, EVENT_HEADER, items)?);
     let common = meant!(scope_meaning(alloc, known, EVENT_CONTEXT, items)?);
-    holds!(has_sizes(&context));
+    holds!(has_member(&context.members, "packet_size"));
+    holds!(has_member(&context.members, "content_size"));
     Ok(Some(Stream {
         id,
         context,
@@ -41,13 +42,6 @@ pub(crate) fn stream_meaning(alloc: Global, known: &Known, items: &[Item]) -> Me
         common,
         events: ListOf::new(alloc),
     }))
-}
-
-/// Whether a packet context has both sizes.
-fn has_sizes(context: &StructType) -> bool
-    ensures { result ≡ (has_member (codes "packet_size") context.now.members && has_member (codes "content_size") context.now.members) }
-{
-    has_member(&context.members, "packet_size") && has_member(&context.members, "content_size")
 }
 
 /// The event of a block, and the number of its stream.

@@ -28,14 +28,6 @@ pub(crate) fn judge_attribute(
     ensures flawless { IfOk result (λ _. AddsAttribute (asked_of judging.now.kind judging.now.ledger.now) names.old.names attribute.now names.new.names) }
 {
     names.add(judging.alloc, &attribute.name, at)?;
-    judge_value(judging, attribute, at)
-}
-
-/// Judges what an attribute has, by the rule for its name.
-fn judge_value(judging: &Judging, attribute: &Attribute, at: usize) -> Result<(), Stop>
-    ensures fit { IfOk result (λ _. IsTrue (is_fit (asked_of judging.now.kind judging.now.ledger.now) attribute.now)) }
-    ensures fault { (items : List Item) → IfErr result (StopsWhere (IsBegun judging.now items) at (attr_toks attribute.now)) }
-{
     let Some(word) = one_word(&attribute.name) else {
         return Ok(());
     };

@@ -1,7 +1,7 @@
 //! The first flaw of a member's kind: an integer, an enumeration or a string, and of its attributes.
 
 ghost use Rattle.std.specs.Prelude.{◌∷◌, ◌++◌, IsSome, IfOk, IfErr, ◌≡◌, IsTrue};
-ghost use Rattle.tsdl_meaning.specs.Words.{flat_map, kind_toks, entry_toks, next_entry_toks, word, attr_toks, attrs_toks, value_toks, entry_meaning, kind_meaning, StopsAmong, StopsWhere, IsBehindBrace, IsBehindName, IsBehindWord, AreRanges, AddsAttribute, is_among, words_of, of_integer, tree_of, type_word, own_attrs, own_asked, is_some, order_value, base_value, clock_value, names_of, AreNamed, fits, is_fit};
+ghost use Rattle.tsdl_meaning.specs.Words.{flat_map, kind_toks, entry_toks, next_entry_toks, word, attr_toks, attrs_toks, value_toks, entry_meaning, kind_meaning, StopsAmong, StopsWhere, IsBehindBrace, IsBehindWord, AreRanges, AddsAttribute, is_among, words_of, of_integer, tree_of, type_word, own_attrs, own_asked, is_some, order_value, base_value, clock_value, names_of, AreNamed, fits, is_fit};
 ghost use Rattle.tsdl_grammar.specs.declared.token.Mark.TheVariants as marks;
 
 use crate::enumeration::{MAX_RANGES, rises};
@@ -125,8 +125,11 @@ fn judge_attribute(
         return Err(Stop::unsupported(judging.alloc, at, &attribute.name, Remedy::Nothing));
     }
     names.add(judging.alloc, &attribute.name, at)?;
-    let behind = at.saturating_add(attribute.name.length()).saturating_add(1);
-    judge_value(judging, kind, attribute, behind)
+    let Some(word) = one_word(&attribute.name) else {
+        return Ok(());
+    };
+    let behind = at.saturating_add(2);
+    judge_value(judging, kind, word.as_str(), &attribute.value, behind)
 }
 
 /// The attributes that a type may have.
@@ -139,43 +142,33 @@ fn attributes_of(kind: TypeKind) -> &'static [&'static [&'static str]]
     }
 }
 
-/// The value of an attribute, behind its name and `=`.
+/// What the attribute of this name has, behind its name and `=`.
+#[tactic(auto, using(crate::proofs::JudgedParts::any_front))]
 fn judge_value(
     judging: &Judging,
     kind: TypeKind,
-    attribute: &Attribute,
+    word: &str,
+    value: &Value,
     at: usize,
 ) -> Result<(), Stop>
-    ensures fit { IfOk result (λ _. IsTrue (is_fit (own_asked judging.now.survey.now.known kind) attribute.now)) }
-    ensures fault { IfErr result (StopsWhere (IsBehindName attribute.now.name) at (value_toks attribute.now.value)) }
-{
-    let Some(word) = one_word(&attribute.name) else {
-        return Ok(());
-    };
-    match kind {
-        TypeKind::Integer => judge_integer(judging, word.as_str(), &attribute.value, at),
-        TypeKind::Text if is_encoding(&attribute.value) => Ok(()),
-        TypeKind::Text => Err(unread(judging.alloc, &attribute.value, at, Remedy::Nothing)),
-    }
-}
-
-/// What the attribute of this name of an integer has.
-#[tactic(auto, using(crate::proofs::JudgedParts::any_front))]
-fn judge_integer(judging: &Judging, word: &str, value: &Value, at: usize) -> Result<(), Stop>
-    ensures fit { IfOk result (λ _. IsTrue (fits (of_integer judging.now.survey.now.known) word.now value.now)) }
+    ensures fit { IfOk result (λ _. IsTrue (fits (own_asked judging.now.survey.now.known kind) word.now value.now)) }
     ensures fault { IfErr result (StopsWhere (IsBehindWord word.now) at (value_toks value.now)) }
 {
-    match word {
-        "size" => match judge_natural(value, at)? {
-            1..=64 => Ok(()),
-            _ => Err(Stop::expected(at, value, "a size from 1 to 64 bits")),
+    match kind {
+        TypeKind::Integer => match word {
+            "size" => match judge_natural(value, at)? {
+                1..=64 => Ok(()),
+                _ => Err(Stop::expected(at, value, "a size from 1 to 64 bits")),
+            },
+            "align" => judge_align(number(value, at)?, at),
+            "signed" => judge_flag(value, at),
+            "byte_order" => judge_order(judging, value, at),
+            "base" => judge_base(judging, value, at),
+            "map" => judge_map(judging, value, at),
+            _ => Ok(()),
         },
-        "align" => judge_align(number(value, at)?, at),
-        "signed" => judge_flag(value, at),
-        "byte_order" => judge_order(judging, value, at),
-        "base" => judge_base(judging, value, at),
-        "map" => judge_map(judging, value, at),
-        _ => Ok(()),
+        TypeKind::Text if is_encoding(value) => Ok(()),
+        TypeKind::Text => Err(unread(judging.alloc, value, at, Remedy::Nothing)),
     }
 }
 

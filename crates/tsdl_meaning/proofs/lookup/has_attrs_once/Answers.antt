@@ -1,4 +1,4 @@
-use Rattle.std.proofs.Common.{◌≡◌, ◌<◌, ◌++◌, ℕ, Bool, List, [], ◌∷◌, IfOk, length, drop, length-drop, append-nil, arith, subst, sym, ◌∙◌}
+use Rattle.std.proofs.Common.{◌≡◌, ◌<◌, ◌++◌, ℕ, Bool, List, ◌∷◌, IfOk, length, drop, length-drop, append-nil, arith, subst, sym, ◌∙◌, []}
 use Rattle.tsdl_meaning.proofs.TextWords.{Item, attr_names, attrs_in}
 use Rattle.tsdl_meaning.proofs.DistinctKeys.{distinct_names}
 use Rattle.tsdl_meaning.proofs.lookup.has_attrs_once.Goals as goal

@@ -1,4 +1,4 @@
-use Rattle.std.proofs.Common.{List, [], ℕ, arith}
+use Rattle.std.proofs.Common.{List, ℕ, arith, []}
 use Rattle.tsdl_meaning.proofs.TextWords.{MemberType, Plain, Str}
 use Rattle.tsdl_meaning.specs.Members.{is_length}
 use Rattle.tsdl_meaning.proofs.MemberNames.{first_place, no_place}

@@ -1,4 +1,4 @@
-use Rattle.std.proofs.Common.{◌≡◌, [], drop}
+use Rattle.std.proofs.Common.{◌≡◌, drop, []}
 use Rattle.tsdl_meaning.proofs.TextWords.{members_meaning}
 use Rattle.tsdl_meaning.proofs.structure.members_meaning.Given as goal
 

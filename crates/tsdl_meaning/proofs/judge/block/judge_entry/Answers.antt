@@ -1,9 +1,8 @@
-use Rattle.std.proofs.Common.{◌≡◌, true, arith, [], ◌∷◌, ◌++◌, refl, sym, ◌∙◌, inl, inr, append_assoc}
+use Rattle.std.proofs.Common.{◌≡◌, true, arith, ◌∷◌, ◌++◌, refl, sym, ◌∙◌, inl, inr, append_assoc, []}
 use Rattle.tsdl_grammar.specs.declared.token.Mark.TheVariants as marks
-use Rattle.tsdl_meaning.proofs.TextWords.{AddsFact, EndsFacts, StopsAmong, StopsWhere, fact_meaning, fact_toks, is_some, mark, named_fact_toks, stops_after, word}
+use Rattle.tsdl_meaning.proofs.TextWords.{AddsFact, EndsFacts, StopsAmong, StopsWhere, fact_meaning, fact_toks, is_some, mark, named_fact_toks, stops_after, word, IfErr-weaker, IfOk-weaker}
 use Rattle.tsdl_flaw.specs.declared.flaw.Flaw.TheVariants as flaws
 use Rattle.tsdl_flaw.proofs.Stops.{whole}
-use Rattle.tsdl_meaning.proofs.JudgedParts.{err_from, ok_map}
 use Rattle.tsdl_meaning.proofs.FlawlessFacts.{fact_twice}
 use Rattle.tsdl_meaning.proofs.judge.block.judge_entry.Goals as goal
 
@@ -23,7 +22,7 @@ returns-then-before-ge-MAX_ENVIRONMENT-clause-fault c = λ front behind ends.
 pub returns-clause-fault : goal.returns-clause-fault
 returns-clause-fault c =
     let fact = c.args.fact.now in
-    err_from c.judge_fact.result (StopsAmong c.saturating_add-end.result (fact_toks fact.fact)) (StopsWhere (EndsFacts c.args.before.now) c.args.at (named_fact_toks fact))
+    IfErr-weaker c.judge_fact.result (StopsAmong c.saturating_add-end.result (fact_toks fact.fact)) (StopsWhere (EndsFacts c.args.before.now) c.args.at (named_fact_toks fact))
     (λ stop h front behind ends.
     let opening = word fact.name ∷ mark marks.Equals ∷ [] in
     stops_after front (named_fact_toks fact ++ behind) opening (fact_toks fact.fact ++ mark marks.Semicolon ∷ behind) c.args.at c.saturating_add-end.result stop (simp append_assoc)
@@ -34,5 +33,5 @@ pub returns-clause-flawless : goal.returns-clause-flawless
 returns-clause-flawless c =
     let before = c.args.before.now in
     let fact = c.args.fact.now in
-    ok_map c.judge_fact.result (λ x. is_some (fact_meaning fact.fact) ≡ true) (λ x. AddsFact before fact)
+    IfOk-weaker c.judge_fact.result (λ x. is_some (fact_meaning fact.fact) ≡ true) (λ x. AddsFact before fact)
     (λ x meant. record { few = omega arith; fresh = sym c.has_fact.ensures ∙ c.if-has_fact.false; meant = meant }) c.judge_fact.ensures.meant

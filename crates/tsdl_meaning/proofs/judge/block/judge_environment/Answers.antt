@@ -1,4 +1,4 @@
-use Rattle.std.proofs.Common.{arith, [], ◌∷◌, ◌++◌, take, refl, sym, subst, append_assoc, codes}
+use Rattle.std.proofs.Common.{arith, ◌∷◌, ◌++◌, take, refl, sym, subst, append_assoc, codes, []}
 use Rattle.tsdl_meaning.proofs.TextWords.{StopsAmong, behind_item, braced, flat_map, mark, named_fact_toks, take_all, word}
 use Rattle.tsdl_grammar.specs.declared.token.Mark.TheVariants as marks
 use Rattle.tsdl_meaning.proofs.FlawlessFacts.{Facts, fact_more, no_facts, facts_mean}

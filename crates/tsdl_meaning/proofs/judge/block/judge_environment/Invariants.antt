@@ -1,4 +1,4 @@
-use Rattle.std.proofs.Common.{[], ◌∷◌, ◌++◌, take, codes}
+use Rattle.std.proofs.Common.{◌∷◌, ◌++◌, take, codes, []}
 use Rattle.tsdl_meaning.proofs.TextWords.{StandsBehind, flat_map, mark, named_fact_toks, word}
 use Rattle.tsdl_grammar.specs.declared.token.Mark.TheVariants as marks
 use Rattle.tsdl_meaning.proofs.FlawlessFacts.{Facts}

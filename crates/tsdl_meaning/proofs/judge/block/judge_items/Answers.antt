@@ -1,9 +1,9 @@
-use Rattle.std.proofs.Common.{arith, List, [], ◌∷◌, ◌++◌, take, refl, sym, subst}
-use Rattle.tsdl_meaning.proofs.TextWords.{AreNoted, Atom, IsBegun, IsEnded, IsFlawlessBlock, Item, StandsBehind, StopsIn, StopsWhere, attr_in, begun, behind_item, item_toks, items_toks, mark, scope_in, take_all, word, word_of}
+use Rattle.std.proofs.Common.{arith, List, ◌∷◌, ◌++◌, take, refl, sym, subst, []}
+use Rattle.tsdl_meaning.proofs.TextWords.{AreNoted, Atom, IsBegun, IsEnded, IsFlawlessBlock, Item, StandsBehind, StopsIn, StopsWhere, attr_in, begun, behind_item, item_toks, items_toks, mark, scope_in, take_all, word, word_of, IfErr-weaker, IfOk-weaker}
 use Rattle.tsdl_grammar.specs.declared.token.Mark.TheVariants as marks
 use Rattle.tsdl_meaning.proofs.Fronts.{next_item}
 use Rattle.tsdl_meaning.proofs.FlawlessItems.{Items, with_attribute, with_scope, no_items, items_flawless}
-use Rattle.tsdl_meaning.proofs.JudgedParts.{err_from, handed, in_item, in_part, ok_map}
+use Rattle.tsdl_meaning.proofs.JudgedParts.{handed, in_item, in_part}
 use Rattle.tsdl_meaning.proofs.JudgedLedgers.{noted_more}
 use Rattle.tsdl_meaning.proofs.StopsInAttributes.{are_named, attribute_in, list_opening, scope_named}
 use Rattle.tsdl_meaning.proofs.judge.block.judge_items.Goals as goal
@@ -89,7 +89,7 @@ returns-clause-fault c =
     let place : StandsBehind c.args.at (begun w items) next =
     subst (λ (is : List Item). StandsBehind c.args.at (begun w is) next) (take_all c.loop-item.item-index items (omega arith)) c.loop-item.invariant.place
     in
-    err_from c.judge_end.result (StopsWhere (IsBegun judging items) next (mark marks.CloseBrace ∷ [])) (StopsWhere (λ (front : List Atom). AreNoted front judging.ledger.now) c.args.at toks)
+    IfErr-weaker c.judge_end.result (StopsWhere (IsBegun judging items) next (mark marks.CloseBrace ∷ [])) (StopsWhere (λ (front : List Atom). AreNoted front judging.ledger.now) c.args.at toks)
     (λ stop h front behind n.
     in_part toks (begun w items) (mark marks.CloseBrace ∷ []) [] front behind c.args.at next stop refl place
     (h (front ++ begun w items) behind (record { noted = noted_more front (begun w items) judging.ledger.now n; ends = (front, refl) })))
@@ -101,7 +101,7 @@ returns-clause-flawless c =
     let known = judging.survey.now.known in
     let ledger = judging.ledger.now in
     let items = c.args.items.now in
-    ok_map c.judge_end.result (λ x. IsEnded judging.kind ledger items) (λ x. IsFlawlessBlock known judging.kind ledger items)
+    IfOk-weaker c.judge_end.result (λ x. IsEnded judging.kind ledger items) (λ x. IsFlawlessBlock known judging.kind ledger items)
     (λ x ended. record {
       parts = items_flawless known judging.kind ledger items c.loop-item.attributes.names c.loop-item.scopes.names
           (subst (λ (is : List Item). Items known judging.kind ledger is c.loop-item.attributes.names c.loop-item.scopes.names) (take_all c.loop-item.item-index items (omega arith)) c.loop-item.invariant.flawless);

@@ -1,8 +1,8 @@
-use Rattle.std.proofs.Common.{◌≡◌, ℕ, List, [], ◌∷◌, ◌++◌, Some, Bor, option_map, refl, sym, ap, ◌∙◌, subst, rules, tests}
+use Rattle.std.proofs.Common.{◌≡◌, ℕ, List, ◌∷◌, ◌++◌, Some, Bor, option_map, refl, sym, ap, ◌∙◌, subst, rules, tests, []}
 use Rattle.tsdl_meaning.proofs.TextWords.{AreNamed, Atom, ScopeRule, StopsWhere, YieldsList-from_slice, behind_more, find_from_yields_List, mark, name_toks, rule_in, same_words, scope_toks, stops_after, struct_toks, texts_of, words_of}
 use Rattle.tsdl_grammar.specs.declared.token.Mark.TheVariants as marks
 use Rattle.tsdl_meaning.proofs.JudgedParts.{behind_first, handed, stops_same}
-use Rattle.tsdl_meaning.proofs.BlockAttributes.{scope_parts, scope_opening, rule_found}
+use Rattle.tsdl_meaning.proofs.BlockAttributes.{in_name, scope_parts, scope_opening, rule_found}
 use Rattle.tsdl_meaning.proofs.judge.block.judge_scope.Goals as goal
 
 pub returns-in_default-clause-fault : goal.returns-in_default-clause-fault
@@ -14,13 +14,9 @@ returns-in_default-clause-fault c = λ front behind named.
 pub returns-in_err-add-clause-fault : goal.returns-in_err-add-clause-fault
 returns-in_err-add-clause-fault c =
     let s = c.args.scope.now in
-    let stop = c.in_err-add.field-0.0 in
-    let P = λ (front : List Atom). AreNamed front marks.Assign c.args.names.now.names in
-    handed c.from_residual.result stop (StopsWhere P c.args.at (scope_toks s)) c.from_residual.ensures.1
-    (λ front behind named.
-    let opening = name_toks s.name ++ mark marks.Assign ∷ [] in
-    let rest = struct_toks s.structure ++ mark marks.Semicolon ∷ behind in
-    stops_same front (scope_toks s ++ behind) (opening ++ rest) c.args.at stop (scope_opening s behind) (c.in_err-add.ensures.fault marks.Assign front rest named))
+    let names = c.args.names.now.names in
+    in_name (λ (front : List Atom). AreNamed front marks.Assign names) marks.Assign names c.from_residual.result c.in_err-add.field-0.0 s.name (scope_toks s) (struct_toks s.structure) c.args.at (scope_opening s)
+    c.from_residual.ensures.1 (λ front p. p) c.in_err-add.ensures.fault
 
 pub returns-in_err-judge_structure-clause-fault : goal.returns-in_err-judge_structure-clause-fault
 returns-in_err-judge_structure-clause-fault c =

@@ -1,6 +1,6 @@
-use Rattle.std.proofs.Common.{List, [], ◌∷◌, refl}
-use Rattle.tsdl_meaning.proofs.TextWords.{AreBrackets, Bracket, IsBehindBrackets, IsInBracket, IsInBrackets, Stop, StopsWhere, bracket_toks, flat_map, mark, number_toks, word}
-use Rattle.tsdl_meaning.proofs.JudgedParts.{ends_more, handed, err_from}
+use Rattle.std.proofs.Common.{List, ◌∷◌, refl, []}
+use Rattle.tsdl_meaning.proofs.TextWords.{AreBrackets, Bracket, IsBehindBrackets, IsInBracket, IsInBrackets, Stop, StopsWhere, bracket_toks, flat_map, mark, number_toks, word, IfErr-weaker}
+use Rattle.tsdl_meaning.proofs.JudgedParts.{ends_more, handed}
 use Rattle.tsdl_grammar.specs.declared.token.Mark.TheVariants as marks
 use Rattle.tsdl_grammar.specs.declared.tree.Bracket.TheVariants as brackets
 use Rattle.tsdl_meaning.proofs.FlawlessTypes.{count_more}
@@ -37,7 +37,7 @@ returns-in-Member-clause-fault c =
     let w = c.in-Member.name in
     let place = c.saturating_add-place.result in
     rw c.in-Member.is
-    (err_from c.judge_name.result (StopsWhere IsInBracket place (word w ∷ []))
+    (IfErr-weaker c.judge_name.result (StopsWhere IsInBracket place (word w ∷ []))
     (λ (s : Stop). (done : List Bracket) → AreBrackets c.args.before.now done c.args.lengths.now → StopsWhere (IsBehindBrackets done) c.args.at (bracket_toks (brackets.Member w)) s)
     (λ s f done h. in_bracket (IsBehindBrackets done) IsInBracket (word w ∷ []) c.args.at place s c.saturating_add-place.ensures (λ front ends. (front, refl)) f) c.judge_name.ensures.fault)
 

@@ -1,4 +1,4 @@
-use Rattle.std.proofs.Common.{List, [], ◌++◌, take, refl, sym, subst, arith}
+use Rattle.std.proofs.Common.{List, ◌++◌, take, refl, sym, subst, arith, []}
 use Rattle.tsdl_meaning.proofs.TextWords.{AreBrackets, Bracket, StopsAmong, append-nil, behind_item, bracket_toks, flat_map, take_all}
 use Rattle.tsdl_meaning.proofs.JudgedParts.{handed, in_item}
 use Rattle.tsdl_meaning.proofs.Fronts.{next_item}

@@ -1,4 +1,4 @@
-use Rattle.std.proofs.Common.{[], refl, sym, ap, ◌∙◌, arith}
+use Rattle.std.proofs.Common.{refl, sym, ap, ◌∙◌, arith, []}
 use Rattle.tsdl_meaning.proofs.TextWords.{is_some, length_place, word}
 use Rattle.tsdl_meaning.proofs.FlawlessTypes.{name_more}
 use Rattle.tsdl_meaning.proofs.StopsInMembers.{word_unread}

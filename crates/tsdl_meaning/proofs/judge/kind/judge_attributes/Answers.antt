@@ -1,4 +1,4 @@
-use Rattle.std.proofs.Common.{List, [], arith, ◌∷◌, ◌++◌, map, take, refl, sym, ◌∙◌, subst, codes}
+use Rattle.std.proofs.Common.{List, arith, ◌∷◌, ◌++◌, map, take, refl, sym, ◌∙◌, subst, codes, []}
 use Rattle.std.proofs.lemmas.List.Concat.{flat_map_single}
 use Rattle.tsdl_grammar.specs.declared.token.Mark.TheVariants as marks
 use Rattle.tsdl_meaning.proofs.TextWords.{Attribute, HasNames, StandsBehind, StopsAmong, attr, attr_toks, attrs_toks, behind_item, flat_map, mark, map-id, own_asked, own_attrs, take_all, type_word, word, written}

@@ -1,9 +1,9 @@
-use Rattle.std.proofs.Common.{IsSome, List, [], ◌∷◌, ◌++◌, ◌+◌, codes, length, length-append, append_assoc, arith, refl, sym, ap, ◌∙◌, subst}
-use Rattle.tsdl_meaning.proofs.TextWords.{AreRanges, Atom, Attribute, Entry, IsBehindBrace, StopsAmong, StopsWhere, attr_toks, braced, closing_toks, entries_toks, entry_toks, flat_map, int_meaning, int_toks, kind_meaning, kind_toks, mark, next_entry_toks, word}
+use Rattle.std.proofs.Common.{IsSome, List, ◌∷◌, ◌++◌, codes, length-append, append_assoc, arith, refl, sym, ap, ◌∙◌, subst, []}
+use Rattle.tsdl_meaning.proofs.TextWords.{AreRanges, Atom, Attribute, Entry, IsBehindBrace, StopsAmong, StopsWhere, attr_toks, braced, closing_toks, entries_toks, entry_toks, flat_map, int_meaning, int_toks, kind_meaning, kind_toks, mark, next_entry_toks, word, IfErr-weaker, IfOk-weaker}
 use Rattle.tsdl_grammar.specs.declared.token.Mark.TheVariants as marks
 use Rattle.tsdl_grammar.specs.declared.tree.Entries.TheVariants as entries
 use Rattle.tsdl_grammar.specs.declared.tree.Kind.TheVariants as kinds
-use Rattle.tsdl_meaning.proofs.JudgedParts.{ok_map, handed, in_part, err_from}
+use Rattle.tsdl_meaning.proofs.JudgedParts.{handed, in_part}
 use Rattle.tsdl_meaning.proofs.FlawlessTypes.{bare_string, int_means, ranges_mean, no_ranges}
 use Rattle.tsdl_meaning.proofs.judge.kind.judge_kind.Goals as goal
 
@@ -13,7 +13,7 @@ enum_opening = word (codes "enum") ∷ mark marks.Colon ∷ []
 pub returns-in-Integer-clause-meant : goal.returns-in-Integer-clause-meant
 returns-in-Integer-clause-meant c =
     let known = c.args.judging.now.survey.now.known in
-    ok_map c.judge_attributes.result (λ x. IsSome (kind_meaning known (kinds.Integer c.as_slice.result.now))) (λ x. IsSome (kind_meaning known c.args.kind.now))
+    IfOk-weaker c.judge_attributes.result (λ x. IsSome (kind_meaning known (kinds.Integer c.as_slice.result.now))) (λ x. IsSome (kind_meaning known c.args.kind.now))
     (λ x h. rw c.in-Integer.is (subst (λ (l : List Attribute). IsSome (kind_meaning known (kinds.Integer l))) c.as_slice.ensures h)) c.judge_attributes.ensures.meant
 
 pub returns-in-None-clause-meant : goal.returns-in-None-clause-meant
@@ -43,7 +43,7 @@ returns-in-Listed-clause-fault c =
     let closing = closing_toks c.in-Listed.field-2 ++ mark marks.CloseBrace ∷ [] in
     let place = c.saturating_add.result in
     rw (c.in-Enumeration.is, c.in-Listed.is)
-    (err_from c.judge_ranges.result (StopsWhere IsBehindBrace place (entry_toks first ++ flat_map next_entry_toks c.as_slice-in-Listed.result.now)) (StopsAmong c.args.at toks)
+    (IfErr-weaker c.judge_ranges.result (StopsWhere IsBehindBrace place (entry_toks first ++ flat_map next_entry_toks c.as_slice-in-Listed.result.now)) (StopsAmong c.args.at toks)
     (λ s h front behind.
     in_part toks pre ranges closing front behind c.args.at place s
     (ap (λ (l : List Atom). integer ++ mark marks.OpenBrace ∷ l) (append_assoc ranges (closing_toks c.in-Listed.field-2) (mark marks.CloseBrace ∷ [])) ∙ sym (append_assoc integer (mark marks.OpenBrace ∷ []) (ranges ++ closing)))
@@ -63,7 +63,7 @@ returns-in-Listed-clause-meant c =
     let first = c.in-Listed.first in
     let int = subst (λ (l : List Attribute). IsSome (int_meaning known l)) c.as_slice-in-Enumeration.ensures (int_means known _ c.in_ok-judge_attributes-in-Enumeration.ensures.meant) in
     rw (c.in-Enumeration.is, c.in-Listed.is)
-    (ok_map c.judge_ranges.result (λ x. AreRanges (first ∷ c.as_slice-in-Listed.result.now)) (λ x. IsSome (kind_meaning known (kinds.Enumeration attrs (entries.Listed first c.in-Listed.others c.in-Listed.field-2))))
+    (IfOk-weaker c.judge_ranges.result (λ x. AreRanges (first ∷ c.as_slice-in-Listed.result.now)) (λ x. IsSome (kind_meaning known (kinds.Enumeration attrs (entries.Listed first c.in-Listed.others c.in-Listed.field-2))))
     (λ x h.
     ranges_mean known attrs (entries.Listed first c.in-Listed.others c.in-Listed.field-2) int
     (subst (λ (l : List Entry). AreRanges (first ∷ l)) c.as_slice-in-Listed.ensures h))

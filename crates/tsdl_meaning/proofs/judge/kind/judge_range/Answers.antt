@@ -1,4 +1,4 @@
-use Rattle.std.proofs.Common.{List, [], ◌∷◌, ◌++◌, ◌≡◌, ap, sym, ◌∙◌, append_assoc, arith, length-append, Option}
+use Rattle.std.proofs.Common.{List, ◌∷◌, ◌++◌, ◌≡◌, ap, sym, ◌∙◌, append_assoc, arith, length-append, Option, []}
 use Rattle.tsdl_meaning.proofs.TextWords.{Atom, Number, entry_toks, append-nil, high_toks, label_toks, mark, number_toks}
 use Rattle.tsdl_grammar.specs.declared.token.Mark.TheVariants as marks
 use Rattle.tsdl_meaning.proofs.JudgedParts.{in_part}

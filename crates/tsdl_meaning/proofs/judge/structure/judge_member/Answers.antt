@@ -1,5 +1,5 @@
 use Rattle.tsdl_meaning.proofs.TextWords.{Bracket, IsBehindMembers, MemberTree, Stop, StopsAmong, StopsWhere, behind_more, bracket_toks, bracketed, flat_map, is_some, kind_toks, mark, member_toks, names_in, stops_after, word}
-use Rattle.std.proofs.Common.{◌≡◌, ℕ, true, false, List, [], ◌∷◌, ◌++◌, IsSome, Contains, refl, sym, ap, ◌∙◌, subst, append_assoc, arith}
+use Rattle.std.proofs.Common.{◌≡◌, ℕ, true, false, List, ◌∷◌, ◌++◌, IsSome, Contains, refl, sym, ap, ◌∙◌, subst, append_assoc, arith, []}
 use Rattle.tsdl_grammar.specs.declared.token.Mark.TheVariants as marks
 use Rattle.tsdl_meaning.specs.MembersBefore.{AreMembers}
 use Rattle.tsdl_meaning.proofs.FlawlessTypes.{member_means}

@@ -1,8 +1,8 @@
-use Rattle.std.proofs.Common.{List, [], ◌∷◌, ◌++◌, Option, Some, codes, take, sym, ap, ◌∙◌, subst, arith, append_assoc}
+use Rattle.std.proofs.Common.{List, ◌∷◌, ◌++◌, Option, Some, codes, take, sym, ap, ◌∙◌, subst, arith, append_assoc, []}
 use Rattle.tsdl_grammar.specs.declared.token.Mark.TheVariants as marks
-use Rattle.tsdl_meaning.proofs.TextWords.{IsBehindAlign, IsSome, MemberTree, Number, StandsBehind, StopsAmong, StopsWhere, align_of, align_toks, behind_item, flat_map, is_some, mark, member_toks, number_toks, struct_toks, take_all, word}
+use Rattle.tsdl_meaning.proofs.TextWords.{IsBehindAlign, IsSome, MemberTree, Number, StandsBehind, StopsAmong, StopsWhere, align_of, align_toks, behind_item, flat_map, is_some, mark, member_toks, number_toks, struct_toks, take_all, word, IfErr-weaker, IfOk-weaker}
 use Rattle.tsdl_meaning.specs.FlawlessStructures.{IsFlawless}
-use Rattle.tsdl_meaning.proofs.JudgedParts.{handed, err_from, in_item, ok_map}
+use Rattle.tsdl_meaning.proofs.JudgedParts.{handed, in_item}
 use Rattle.tsdl_meaning.proofs.Fronts.{next_item}
 use Rattle.tsdl_meaning.proofs.FlawlessItems.{named_alike}
 use Rattle.tsdl_meaning.proofs.StopsInMembers.{struct_opening, struct_parts, in_align}
@@ -48,7 +48,7 @@ returns-clause-fault c =
     subst (λ (l : List MemberTree). StandsBehind c.args.at (struct_opening ++ flat_map member_toks l) c.loop-tree.next)
     (take_all c.loop-tree.tree-index c.as_slice-trees.result.now (omega arith) ∙ c.as_slice-trees.ensures) c.loop-tree.invariant.stands
     in
-    err_from c.judge_align.result (StopsWhere IsBehindAlign c.saturating_add.result (number_toks c.in-Some.number)) (StopsAmong c.args.at (struct_toks s))
+    IfErr-weaker c.judge_align.result (StopsWhere IsBehindAlign c.saturating_add.result (number_toks c.in-Some.number)) (StopsAmong c.args.at (struct_toks s))
     (λ stop h front behind. in_align s c.in-Some.number front behind c.args.at c.loop-tree.next c.saturating_add.result stop c.in-Some.is stands c.saturating_add.ensures h)
     c.judge_align.ensures.fault
 
@@ -67,7 +67,7 @@ returns-in-None-clause-flawless c =
 
 pub returns-clause-flawless : goal.returns-clause-flawless
 returns-clause-flawless c =
-    ok_map c.judge_align.result (λ u. IsSome (align_of (Some c.in-Some.number))) (λ u. IsFlawless c.args.judging.now.survey.now.known c.args.rule c.args.structure.now)
+    IfOk-weaker c.judge_align.result (λ u. IsSome (align_of (Some c.in-Some.number))) (λ u. IsFlawless c.args.judging.now.survey.now.known c.args.rule c.args.structure.now)
     (λ u aligned.
     all_flawless c.args.judging.now.survey.now.known c.args.rule c.args.structure.now c.loop-tree.members
     (rw (sym c.as_slice-trees.ensures)

@@ -1,4 +1,4 @@
-use Rattle.std.proofs.Common.{arith, List, [], ◌∷◌, ◌++◌, take, refl, sym, ◌∙◌, subst, append_assoc}
+use Rattle.std.proofs.Common.{arith, List, ◌∷◌, ◌++◌, take, refl, sym, ◌∙◌, subst, append_assoc, []}
 use Rattle.tsdl_meaning.proofs.TextWords.{AreNoted, Atom, Block, StandsBehind, StopsIn, append-nil, behind_more, block_and_semicolon, block_toks, flat_next, mark, take_all, text_toks}
 use Rattle.tsdl_grammar.specs.declared.token.Mark.TheVariants as marks
 use Rattle.tsdl_meaning.proofs.JudgedParts.{handed, holds_last, in_item, stops_same}

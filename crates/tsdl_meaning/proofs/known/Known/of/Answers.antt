@@ -1,4 +1,4 @@
-use Rattle.std.proofs.Common.{arith, List, ℕ, [], ◌∷◌, ◌++◌, ap, ◌∙◌}
+use Rattle.std.proofs.Common.{arith, List, ℕ, ◌∷◌, ◌++◌, ap, ◌∙◌, []}
 use Rattle.tsdl_meaning.proofs.Fronts.{made_up_to}
 use Rattle.tsdl_meaning.proofs.known.Known.of.Goals as goal
 

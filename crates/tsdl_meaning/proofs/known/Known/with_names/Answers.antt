@@ -1,4 +1,4 @@
-use Rattle.std.proofs.Common.{arith, true, cond, List, ℕ, ◌+◌, [], ◌∷◌, ◌++◌, take, ap, sym, subst, ◌∙◌}
+use Rattle.std.proofs.Common.{arith, true, cond, List, ℕ, ◌+◌, ◌∷◌, ◌++◌, take, ap, sym, subst, ◌∙◌, []}
 use Rattle.tsdl_meaning.proofs.TextWords.{HasNames, bytes_eq, contains_text, string_bytes, take_all, take_more}
 use Rattle.std.proofs.lemmas.Map.Text.{btree_set_updates_text}
 use Rattle.tsdl_meaning.proofs.DistinctKeys.{one_name}
