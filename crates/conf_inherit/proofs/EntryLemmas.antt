@@ -1,13 +1,13 @@
 -- What an index of entries answers is what a search of the entries answers.
-use Rattle.std.proofs.Common.{inr, inl, Bor, ◌≡◌, ◌+◌, ◌≤◌, ◌||◌, ℕ, suc, List, [], ◌∷◌, length, Option, Some, None, option_map, unwrap_or, is_some, nat_lt, if◌then◌else◌, Bool, true, false, true≢false, refl, sym, ap, ◌∙◌, subst, arith}
-use Rattle.std.proofs.{lemmas.Bool.{or_parts, le-ltb, lt-ltb, cases_Bool}, lemmas.Slice.Eq.bytes_eq-Decides}
+use Rattle.std.proofs.Common.{inr, inl, Bor, ◌≡◌, ◌+◌, ◌||◌, ℕ, suc, List, [], ◌∷◌, length, Option, Some, None, option_map, unwrap_or, is_some, if◌then◌else◌, Bool, true, false, true≢false, refl, sym, ap, ◌∙◌, subst, arith}
+use Rattle.std.proofs.{lemmas.Bool.{or_parts, le-ltb, lt-ltb, cases_Bool, cases_lt}, lemmas.Slice.Eq.bytes_eq-Decides}
 use Rattle.std.specs.{BTreeMap.BTreeMap, List.{IsAmong, push}, Map.update, Option.{option_or, IfSome}, Slice.IsItemAt, Str.bytes_eq}
 use Rattle.serde_json.specs.{Data.{Data, object, Items, no_items, item, Members, no_members, member}, Find.{get, get_member, get_item}, View.{view, items_view}}
 use Rattle.serde_json.specs.declared.value.Value.{Value}
 use Rattle.serde_json.proofs.Views.{get_item_within, get_item_past}
 use Rattle.conf_inherit.specs.EntryIndex.{HasPlaces, place_at, place_if, place_from, lower, lowest}
-use Rattle.conf_inherit.specs.{Laying.{has_entry, lay_over, lay_over_entry, lay_over_member}, Names.properties_of}
-use Rattle.conf_inherit.proofs.LayingLemmas.{same_function, some_is_none, cases_Option, get_first, same, other, meets, get_other, get_same, differs}
+use Rattle.conf_inherit.specs.{Laying.{has_entry, lay_over, lay_over_entry, lay_over_member}, Names.{entries_of, properties_of}}
+use Rattle.conf_inherit.proofs.LayingLemmas.{over_entries, same_function, some_is_none, cases_Option, get_first, same, other, meets, get_other, get_same, differs}
 
 -- ---- the first place of a name
 
@@ -41,7 +41,7 @@ noted old new k place d ms put n = elim (meets n k) [
       let made : new n ≡ Some place = put n ∙ rw eq refl in
       let found : place_if n (object (member k d ms)) place ≡ Some place = let f = get_same n k d ms e in rw f refl in
       ap (option_or (place_if n (object ms) place)) made ∙ again (is_some (get n (object ms))) ∙ sym (ap (λ o. option_or o (old n)) found))
-  | other apart ↦ (let eq : bytes_eq k n ≡ false = differs k n (λ e. apart (sym e)) (bytes_eq k n) refl in
+  | other apart ↦ (let eq : bytes_eq k n ≡ false = differs k n (λ e. apart (sym e)) in
       let kept : new n ≡ old n = put n ∙ rw eq refl in
       ap (option_or (place_if n (object ms) place)) kept ∙ ap (λ o. option_or (if is_some o then Some place else None) (old n)) (sym (get_other n k d ms apart)))
 ]
@@ -50,57 +50,43 @@ noted old new k place d ms put n = elim (meets n k) [
     again true = refl
     again false = refl
 
-abbrev AtLeast : ℕ → Option ℕ → Type 0
-AtLeast i None = Unit {0}
-AtLeast i (Some p) = i ≤ p
-
-sooner : (i : ℕ) (o : Option ℕ) → AtLeast (suc i) o → AtLeast i o
-sooner i None h = tt
-sooner i (Some p) h = omega arith
-
-place_at_least : (i : ℕ) (n : List ℕ) (es : Items) → AtLeast i (place_from i n es)
-place_at_least i n no_items = tt
-place_at_least i n (item e es) = elim (cases_Bool (is_some (get n e))) [
-  | inl is ↦ rw is (let e : i ≤ i = omega arith in e)
-  | inr is ↦ rw is (sooner i (place_from (suc i) n es) (place_at_least (suc i) n es))
-]
+-- a list's places are one further on behind one more entry
+place_later : (i : ℕ) (n : List ℕ) (es : Items) → place_from (suc i) n es ≡ option_map suc (place_from i n es)
+place_later i n no_items = refl
+place_later i n (item e es) = elim (cases_Bool (is_some (get n e))) [ inl is ↦ rw is refl | inr is ↦ rw is (place_later (suc i) n es) ]
 
 -- ---- the lowest place of some names
 
-lower_at_least : (i : ℕ) (o q : Option ℕ) → AtLeast i o → AtLeast i q → AtLeast i (lower o q)
-lower_at_least i None q a b = b
-lower_at_least i (Some p) None a b = a
-lower_at_least i (Some p) (Some r) a b = elim (cases_Bool (nat_lt r p)) [ inl is ↦ rw is b | inr is ↦ rw is a ]
+lower_later : (o q : Option ℕ) → lower (option_map suc o) (option_map suc q) ≡ option_map suc (lower o q)
+lower_later None q = refl
+lower_later (Some i) None = refl
+lower_later (Some i) (Some j) = elim (cases_lt j i) [ inl is ↦ rw (lt-ltb j i is, lt-ltb (suc j) (suc i) (omega arith)) refl | inr is ↦ rw (le-ltb j i is, le-ltb (suc j) (suc i) (omega arith)) refl ]
 
-lowest_at_least : (i : ℕ) (f : List ℕ → Option ℕ) (ms : Members) → ((n : List ℕ) → AtLeast i (f n)) → AtLeast i (lowest f ms)
-lowest_at_least i f no_members h = tt
-lowest_at_least i f (member n d ms) h = lower_at_least i (f n) (lowest f ms) (h n) (lowest_at_least i f ms h)
+lower_first : (q : Option ℕ) → lower (Some 0) q ≡ Some 0
+lower_first None = refl
+lower_first (Some j) = rw (le-ltb j 0 (omega arith)) refl
 
-lower_first : (i : ℕ) (q : Option ℕ) → AtLeast i q → lower (Some i) q ≡ Some i
-lower_first i None h = refl
-lower_first i (Some j) h = rw (le-ltb j i h) refl
-
-lower_second : (i : ℕ) (o q : Option ℕ) → AtLeast (suc i) o → q ≡ Some i → lower o q ≡ Some i
-lower_second i None q h e = e
-lower_second i (Some p) q h e = rw (e, lt-ltb i p h) refl
+lower_second : (o : Option ℕ) → lower (option_map suc o) (Some 0) ≡ Some 0
+lower_second None = refl
+lower_second (Some p) = rw (lt-ltb 0 (suc p) (omega arith)) refl
 
 -- one of the names is that of a property of the value
 abbrev shares : Members → Data → Bool
 shares no_members e = false
 shares (member n d ms) e = is_some (get n e) || shares ms e
 
-lowest_later : (i : ℕ) (e : Data) (es : Items) (ms : Members) → shares ms e ≡ false → lowest (λ n. place_from i n (item e es)) ms ≡ lowest (λ n. place_from (suc i) n es) ms
-lowest_later i e es no_members h = refl
-lowest_later i e es (member n d ms) h = elim (cases_Bool (is_some (get n e))) [
+lowest_later : (e : Data) (es : Items) (ms : Members) → shares ms e ≡ false → lowest (λ n. place_from 0 n (item e es)) ms ≡ option_map suc (lowest (λ n. place_from 0 n es) ms)
+lowest_later e es no_members h = refl
+lowest_later e es (member n d ms) h = elim (cases_Bool (is_some (get n e))) [
   | inl is ↦ absurd (true≢false (rw is at h))
-  | inr is ↦ rw is (ap (lower (place_from (suc i) n es)) (lowest_later i e es ms (rw is at h)))
+  | inr is ↦ rw is (ap (λ o. lower o (lowest (λ n. place_from 0 n (item e es)) ms)) (place_later 0 n es) ∙ ap (lower (option_map suc (place_from 0 n es))) (lowest_later e es ms (rw is at h)) ∙ lower_later (place_from 0 n es) (lowest (λ n. place_from 0 n es) ms))
 ]
 
-lowest_here : (i : ℕ) (e : Data) (es : Items) (ms : Members) → shares ms e ≡ true → lowest (λ n. place_from i n (item e es)) ms ≡ Some i
-lowest_here i e es no_members h = absurd (true≢false (sym h))
-lowest_here i e es (member n d ms) h = elim (cases_Bool (is_some (get n e))) [
-  | inl is ↦ rw is (lower_first i _ (lowest_at_least i (λ n. place_from i n (item e es)) ms (λ n. place_at_least i n (item e es))))
-  | inr is ↦ rw is (lower_second i (place_from (suc i) n es) _ (place_at_least (suc i) n es) (lowest_here i e es ms (rw is at h)))
+lowest_here : (e : Data) (es : Items) (ms : Members) → shares ms e ≡ true → lowest (λ n. place_from 0 n (item e es)) ms ≡ Some 0
+lowest_here e es no_members h = absurd (true≢false (sym h))
+lowest_here e es (member n d ms) h = elim (cases_Bool (is_some (get n e))) [
+  | inl is ↦ rw is (lower_first (lowest (λ n. place_from 0 n (item e es)) ms))
+  | inr is ↦ rw is (ap (λ o. lower o (lowest (λ n. place_from 0 n (item e es)) ms)) (place_later 0 n es) ∙ ap (lower (option_map suc (place_from 0 n es))) (lowest_here e es ms (rw is at h)) ∙ lower_second (place_from 0 n es))
 ]
 
 unshared : (n : List ℕ) (bs : Members) (e : Data) → shares bs e ≡ false → is_some (get n e) ≡ true → get_member n bs ≡ None
@@ -151,44 +137,36 @@ decided done bs _ rest last h = absurd (true≢false (sym h ∙ none_shared _ (�
 -- ---- the entry at the lowest place of a value's names is the one that is laid over it
 
 -- the entry at the place, if there is one, is laid over the value, and else the value stays
-abbrev pub Finds : ℕ → Items → Data → Option ℕ → Type 0
-Finds i es b None = (done : Members) → lay_over done es b ≡ b
-Finds i es b (Some p) = (k : ℕ) × (e : Data) × (p ≡ i + k) × (get_item k es ≡ Some e) × ((done : Members) → lay_over done es b ≡ lay_over_entry done e b b)
+abbrev pub Finds : Items → Data → Option ℕ → Type 0
+Finds es b None = (done : Members) → lay_over done es b ≡ b
+Finds es b (Some p) = (e : Data) × (get_item p es ≡ Some e) × ((done : Members) → lay_over done es b ≡ lay_over_entry done e b b)
 
-finds_later : (i : ℕ) (e : Data) (es : Items) (bs : Members) → shares bs e ≡ false → (o : Option ℕ) → Finds (suc i) es (object bs) o → Finds i (item e es) (object bs) o
-finds_later i e es bs is None h = λ done. passed done bs e (lay_over done es (object bs)) is ∙ h done
-finds_later i e es bs is (Some p) (k, x, sum, at, laid) = (suc k, x, omega arith, at, λ done. passed done bs e (lay_over done es (object bs)) is ∙ laid done)
+finds_later : (e : Data) (es : Items) (bs : Members) → shares bs e ≡ false → (o : Option ℕ) → Finds es (object bs) o → Finds (item e es) (object bs) (option_map suc o)
+finds_later e es bs is None h = λ done. passed done bs e (lay_over done es (object bs)) is ∙ h done
+finds_later e es bs is (Some p) (x, at, laid) = (x, at, λ done. passed done bs e (lay_over done es (object bs)) is ∙ laid done)
 
-none_low : (i : ℕ) (bs : Members) → lowest (λ n. place_from i n no_items) bs ≡ None
-none_low i no_members = refl
-none_low i (member n d bs) = none_low i bs
+none_low : (bs : Members) → lowest (λ n. place_from 0 n no_items) bs ≡ None
+none_low no_members = refl
+none_low (member n d bs) = none_low bs
 
-finds_object : (i : ℕ) (es : Items) (bs : Members) → Finds i es (object bs) (lowest (λ n. place_from i n es) bs)
-finds_object i no_items bs = subst (Finds i no_items (object bs)) (sym (none_low i bs)) (λ done. refl)
-finds_object i (item e es) bs = elim (cases_Bool (shares bs e)) [
-  | inl is ↦ subst (Finds i (item e es) (object bs)) (sym (lowest_here i e es bs is)) (0, e, omega arith, refl, λ done. decided done bs e (lay_over done es (object bs)) (object bs) is)
-  | inr is ↦ subst (Finds i (item e es) (object bs)) (sym (lowest_later i e es bs is)) (finds_later i e es bs is _ (finds_object (suc i) es bs))
+finds_object : (es : Items) (bs : Members) → Finds es (object bs) (lowest (λ n. place_from 0 n es) bs)
+finds_object no_items bs = subst (Finds no_items (object bs)) (sym (none_low bs)) (λ done. refl)
+finds_object (item e es) bs = elim (cases_Bool (shares bs e)) [
+  | inl is ↦ subst (Finds (item e es) (object bs)) (sym (lowest_here e es bs is)) (e, refl, λ done. decided done bs e (lay_over done es (object bs)) (object bs) is)
+  | inr is ↦ subst (Finds (item e es) (object bs)) (sym (lowest_later e es bs is)) (finds_later e es bs is _ (finds_object es bs))
 ]
 
 plain_members : (done ms : Members) (b rest : Data) → ((n : List ℕ) → get n b ≡ None) → lay_over_member done ms b rest ≡ rest
 plain_members done no_members b rest none = refl
 plain_members done (member n d ms) b rest none = let f : is_some (get n b) ≡ false = ap is_some (none n) in rw f (plain_members done ms b rest none)
 
-plain_entry : (done : Members) (e b rest : Data) → ((n : List ℕ) → get n b ≡ None) → lay_over_entry done e b rest ≡ rest
-plain_entry done (object ms) b rest none = plain_members done ms b rest none
-plain_entry done _ b rest none = refl
+finds : (es : Items) (b : Data) → Finds es b (lowest (λ n. place_from 0 n es) (properties_of b))
+finds es (object bs) = finds_object es bs
+finds es _ = λ done. over_entries done es _ ∙ plain_members done (entries_of es) _ _ (λ n. refl)
 
-plain_over : (done : Members) (es : Items) (b : Data) → ((n : List ℕ) → get n b ≡ None) → lay_over done es b ≡ b
-plain_over done no_items b none = refl
-plain_over done (item e es) b none = plain_entry done e b (lay_over done es b) none ∙ plain_over done es b none
-
-finds : (es : Items) (b : Data) → Finds 0 es b (lowest (λ n. place_from 0 n es) (properties_of b))
-finds es (object bs) = finds_object 0 es bs
-finds es _ = λ done. plain_over done es _ (λ n. refl)
-
-pub found_by_index : (es : Items) (b : Data) (places : BTreeMap (Bor (List ℕ)) ℕ) (o : Option ℕ) → HasPlaces places es → lowest (λ n. place_at places n) (properties_of b) ≡ o → Finds 0 es b o
+pub found_by_index : (es : Items) (b : Data) (places : BTreeMap (Bor (List ℕ)) ℕ) (o : Option ℕ) → HasPlaces places es → lowest (λ n. place_at places n) (properties_of b) ≡ o → Finds es b o
 found_by_index es b places o placed is =
-    subst (Finds 0 es b) (ap (λ f. lowest f (properties_of b)) (sym (same_function (λ n. place_at places n) (λ n. place_from 0 n es) placed)) ∙ is) (finds es b)
+    subst (Finds es b) (ap (λ f. lowest f (properties_of b)) (sym (same_function (λ n. place_at places n) (λ n. place_from 0 n es) placed)) ∙ is) (finds es b)
 
 -- the item at a place, as data
 item_at : (vs : List Value) (p : ℕ) (r : Option (Bor Value)) → IsItemAt vs p r → option_map (λ x. view x.now) r ≡ get_item p (items_view vs)
@@ -196,11 +174,9 @@ item_at vs p None h = get_item_past vs p h.3
 item_at vs p (Some x) h = ap (λ v. Some (view v)) h.1 ∙ get_item_within vs p x.now h.3.0
 
 -- the item that is found is the one that is laid over the value
-pub found_first : (vs : List Value) (b : Data) (p : ℕ) (r : Option (Bor Value)) → Finds 0 (items_view vs) b (Some p) → IsItemAt vs p r
+pub found_first : (vs : List Value) (b : Data) (p : ℕ) (r : Option (Bor Value)) → Finds (items_view vs) b (Some p) → IsItemAt vs p r
     → (done : Members) → lay_over done (items_view vs) b ≡ unwrap_or (option_map (λ e. lay_over_entry done e b b) (option_map (λ e. view e.now) r)) b
-found_first vs b p r (k, e, sum, at, laid) h done =
-    let one : option_map (λ x. view x.now) r ≡ Some e = item_at vs p r h ∙ ap (λ i. get_item i (items_view vs)) (let same : p ≡ k = omega arith in same) ∙ at in
-    laid done ∙ ap (λ o. unwrap_or (option_map (λ e. lay_over_entry done e b b) o) b) (sym one)
+found_first vs b p r (e, at, laid) h done = laid done ∙ ap (λ o. unwrap_or (option_map (λ e. lay_over_entry done e b b) o) b) (sym (item_at vs p r h ∙ at))
 
 -- it is one of the items
 pub among_items : (vs : List Value) (p : ℕ) (r : Option (Bor Value)) → IsItemAt vs p r → IfSome r (λ x. IsAmong vs x.now)

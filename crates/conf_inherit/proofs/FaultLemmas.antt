@@ -1,6 +1,6 @@
 -- A value without a flaw, whose names are all of resolved aliases, is ready to be resolved.
 use Rattle.std.proofs.Common.{cond, ◌≡◌, ◌&&◌, ◌++◌, inl, inr, ℕ, suc, List, [], ◌∷◌, map, Option, Some, None, is_some, Bool, true, false, true≢false, refl, sym, ap, ◌∙◌, subst, ◌<◌, ◌+◌, ◌⊎◌, Err, arith, ◌||◌, Ok, nat_cmp}
-use Rattle.std.proofs.lemmas.Bool.{or_cases, and_parts, cases_Bool, or_parts, and_cases, and_from}
+use Rattle.std.proofs.lemmas.Bool.{or_cases, and_parts, cases_Bool, or_parts, and_left, and_right, and_from}
 use Rattle.std.specs.{Prelude.⊤, Borrow.Bor, BTreeMap.{is_at, insert_entry}, Cmp.Lexicographic.slice_cmp, Map.lookup}
 use Rattle.serde_json.specs.{Data.{Data, null, string, array, object, Items, no_items, item, Members, no_members, member, put}, Find.{get_member, get_item}}
 use Rattle.serde_json.proofs.Views.{get_member-put, get_member-put_other}
@@ -9,7 +9,7 @@ use Rattle.conf_tree.specs.declared.fault_kind.FaultKind.TheVariants.{WrongKind,
 use Rattle.conf_table.specs.declared.place.Place.{Place}
 use Rattle.conf_table.specs.declared.place.Place.TheVariants as places
 use Rattle.conf_inherit.specs.{FieldPlaces.{place_under, place_of_items, names_alias, names_member_type, lists_members, is_entry}, Names.{entries_of, NoClash}}
-use Rattle.conf_inherit.specs.Flaws.{is_wrong, is_no_entry, is_no_member, is_unknown, own_flaws, base_flaws, inner_flaws, item_flaws, member_flaws, mark, mark_names}
+use Rattle.conf_inherit.specs.Flaws.{is_wrong, is_no_entry, is_no_member, is_unknown, own_flaws, base_flaws, inner_flaws, item_flaws, member_flaws, flaws, mark, mark_names}
 use Rattle.conf_inherit.specs.{Ready.{Names, IsReady, AreReady, HasReady}, Named.{all_named, all_named_in_items, all_named_in_members, has}}
 use Rattle.conf_inherit.specs.{Faults.{Leads, HasEntry, FlawHolds}, Circle.{Mentions, MentionsInItems, MentionsInMembers}, SeenNames.members_named}
 use Rattle.conf_inherit.proofs.{FieldPlaceLemmas.{list_place, entry_list}, LayingLemmas.{get_other, same, other, meets, stands}}
@@ -77,22 +77,6 @@ apart_more n d seen es h a = record {
 }
 
 module _ (al : Members) (rs : Option Members) where
-  -- where a list has no flaw, its first item has none, and the others have none
-  pub item_parts : (s : Place) (i : ℕ) (seen : Members) (v : Data) (es : Items) → item_flaws al rs s i seen (item v es) ≡ []
-      → (own_flaws al (place_of_items s) false v ≡ []) × (inner_flaws al rs (place_of_items s) seen v ≡ []) × (item_flaws al rs s (suc i) (mark v seen) es ≡ [])
-  item_parts s i seen v es h =
-      let (mine, later) = part_empty (within (index i)) _ _ h in
-      let (own, inner) = joined_empty _ _ mine in
-      (own, inner, later)
-
-  -- so it is with the properties of an object
-  pub member_parts : (s : Place) (seen : Members) (k : List ℕ) (d : Data) (ms : Members) → member_flaws al rs s seen (member k d ms) ≡ []
-      → (own_flaws al (place_under s k) (is_entry s && is_some (get_member k seen)) d ≡ []) × (inner_flaws al rs (place_under s k) no_members d ≡ []) × (member_flaws al rs s seen ms ≡ [])
-  member_parts s seen k d ms h =
-      let (mine, later) = part_empty (within (key k)) _ _ h in
-      let (own, inner) = joined_empty _ _ (joined_empty _ _ mine).0 in
-      (own, inner, later)
-
   apart_at : (s : Place) (i : ℕ) (seen : Members) (v : Data) (es : Items) → is_no_entry v ≡ false → inner_flaws al rs places.Entry seen v ≡ [] → (Apart (mark v seen) (entries_of es)) → Apart seen (entries_of (item v es))
   unfolding is_entry
   apart_at s i seen (object (member n d no_members)) es single h a =
@@ -106,9 +90,8 @@ module _ (al : Members) (rs : Option Members) where
   apart_entries : (s : Place) (i : ℕ) (seen : Members) (es : Items) → place_of_items s ≡ places.Entry → item_flaws al rs s i seen es ≡ [] → Apart seen (entries_of es)
   apart_entries s i seen no_items place h = record { distinct = tt; new = λ n f. refl }
   apart_entries s i seen (item v es) place h =
-      let (own_none, inner_none, later) = item_parts s i seen v es h in
-      let own : own_flaws al places.Entry false v ≡ [] = subst (λ x. own_flaws al x false v ≡ []) place own_none in
-      let inner : inner_flaws al rs places.Entry seen v ≡ [] = subst (λ x. inner_flaws al rs x seen v ≡ []) place inner_none in
+      let (mine, later) = part_empty (within (index i)) _ _ h in
+      let (own, inner) = joined_empty _ _ (subst (λ x. flaws al rs x false seen v ≡ []) place mine) in
       apart_at s i seen v es (single_entry v (own_sound al places.Entry false v own).right) inner (apart_entries s (suc i) (mark v seen) es place later)
 
   module _ (done : Members) where
@@ -116,25 +99,25 @@ module _ (al : Members) (rs : Option Members) where
     ready_text s n h names = some_of (get_member n done) (passes_text (has done) s n names h)
 
     mutual
-      pub ready : (v : Data) (s : Place) (seen : Members) → inner_flaws al rs s seen v ≡ [] → all_named (has done) s v ≡ true → IsReady done s v
-      ready (string n) s seen h named = ready_text s n named
-      ready (array es) s seen h named = ((λ is. (apart_entries s 0 no_members es (list_place s is) h).distinct), ready_items es s 0 no_members h named)
-      ready (object ms) s seen h named = ready_members ms s seen h named
-      ready _ s seen h named = tt
+      pub ready : (v : Data) (s : Place) (taken : Bool) (seen : Members) → flaws al rs s taken seen v ≡ [] → all_named (has done) s v ≡ true → IsReady done s v
+      ready (string n) s taken seen h named = ready_text s n named
+      ready (array es) s taken seen h named = let items = (joined_empty _ _ h).1 in ((λ is. (apart_entries s 0 no_members es (list_place s is) items).distinct), ready_items es s 0 no_members items named)
+      ready (object ms) s taken seen h named = ready_members ms s seen (joined_empty _ _ h).1 named
+      ready _ s taken seen h named = tt
 
       ready_items : (es : Items) (s : Place) (i : ℕ) (seen : Members) → item_flaws al rs s i seen es ≡ [] → all_named_in_items (has done) (place_of_items s) es ≡ true → AreReady done (place_of_items s) es
       ready_items no_items s i seen h named = tt
       ready_items (item v es) s i seen h named =
-          let (own, inner, later) = item_parts s i seen v es h in
+          let (mine, later) = part_empty (within (index i)) _ _ h in
           let parts = and_parts (all_named (has done) (place_of_items s) v) (all_named_in_items (has done) (place_of_items s) es) named in
-          (ready v (place_of_items s) seen inner parts.0, ready_items es s (suc i) (mark v seen) later parts.1)
+          (ready v (place_of_items s) false seen mine parts.0, ready_items es s (suc i) (mark v seen) later parts.1)
 
       ready_members : (ms : Members) (s : Place) (seen : Members) → member_flaws al rs s seen ms ≡ [] → all_named_in_members (has done) s ms ≡ true → HasReady done s ms
       ready_members no_members s seen h named = tt
       ready_members (member k d ms) s seen h named =
-          let (own, inner, later) = member_parts s seen k d ms h in
+          let (mine, later) = part_empty (within (key k)) _ _ h in
           let parts = and_parts (all_named (has done) (place_under s k) d) (all_named_in_members (has done) s ms) named in
-          (ready d (place_under s k) no_members inner parts.0, ready_members ms s seen later parts.1)
+          (ready d (place_under s k) _ no_members (joined_empty _ _ mine).0 parts.0, ready_members ms s seen later parts.1)
 
 -- Each flaw that is listed holds at its path.
 
@@ -294,26 +277,14 @@ module _ (al : Members) (rs : Option Members) (P : Place → Data → Flaw → T
 -- The names of aliases in a value: where one test passes and another doesn't, and that a value without a flaw
 -- names aliases alone.
 
--- ---- what a value names passes a test that every name in it passes
+-- a test passes every name, or is open for one
+abbrev Decided : (List ℕ → Bool) → Bool → (List ℕ → Type 0) → Type 0
+Decided p b In = ((b ≡ true) × ((m : List ℕ) → In m → p m ≡ true)) ⊎ ((b ≡ false) × ((m : List ℕ) × In m × (p m ≡ false)))
 
-mutual
-  pub mentioned : (p : List ℕ → Bool) (m : List ℕ) (v : Data) (s : Place) → all_named p s v ≡ true → Mentions m s v → p m ≡ true
-  mentioned p m (string n) s h (names, is) = ap p (sym is) ∙ passes_text p s n names h
-  mentioned p m (array ds) s h x = mentioned_in_items p m ds (place_of_items s) h x
-  mentioned p m (object ms) s h x = mentioned_in_members p m ms s h x
-  mentioned p m _ s h x = absurd x
-
-  mentioned_in_items : (p : List ℕ → Bool) (m : List ℕ) (ds : Items) (s : Place) → all_named_in_items p s ds ≡ true → MentionsInItems m s ds → p m ≡ true
-  mentioned_in_items p m no_items s h x = absurd x
-  mentioned_in_items p m (item d ds) s h (inl x) = mentioned p m d s (and_parts (all_named p s d) (all_named_in_items p s ds) h).0 x
-  mentioned_in_items p m (item d ds) s h (inr x) = mentioned_in_items p m ds s (and_parts (all_named p s d) (all_named_in_items p s ds) h).1 x
-
-  mentioned_in_members : (p : List ℕ → Bool) (m : List ℕ) (ms : Members) (s : Place) → all_named_in_members p s ms ≡ true → MentionsInMembers m s ms → p m ≡ true
-  mentioned_in_members p m no_members s h x = absurd x
-  mentioned_in_members p m (member k d ms) s h (inl x) = mentioned p m d (place_under s k) (and_parts (all_named p (place_under s k) d) (all_named_in_members p s ms) h).0 x
-  mentioned_in_members p m (member k d ms) s h (inr x) = mentioned_in_members p m ms s (and_parts (all_named p (place_under s k) d) (all_named_in_members p s ms) h).1 x
-
--- ---- a name that keeps a value from its turn
+both_decided : (p : List ℕ → Bool) (a b : Bool) (In On : List ℕ → Type 0) → Decided p a In → Decided p b On → Decided p (a && b) (λ m. In m ⊎ On m)
+both_decided p a b In On (inl (x, f)) (inl (y, g)) = inl (and_from a b x y, λ m h. elim h [ inl i ↦ f m i | inr i ↦ g m i ])
+both_decided p a b In On (inl (x, f)) (inr (y, (m, i, off))) = inr (and_right a b y, (m, inr i, off))
+both_decided p a b In On (inr (x, (m, i, off))) t = inr (and_left a b x, (m, inl i, off))
 
 abbrev pub Blocks : (List ℕ → Bool) → Place → Data → Type 0
 Blocks p s v = (m : List ℕ) × Mentions m s v × (p m ≡ false)
@@ -322,25 +293,27 @@ blocks_text : (p : List ℕ → Bool) (s : Place) (n : List ℕ) → all_named p
 blocks_text p s n h = elim (cases_Bool (names_alias s || names_member_type s)) [ inl e ↦ (n, (or_cases (names_alias s) (names_member_type s) e, refl), rw e at h) | inr e ↦ absurd (true≢false (rw e at h)) ]
 
 mutual
-  pub blocked : (p : List ℕ → Bool) (v : Data) (s : Place) → all_named p s v ≡ false → Blocks p s v
-  blocked p (string n) s h = blocks_text p s n h
-  blocked p (array ds) s h = blocked_items p ds (place_of_items s) h
-  blocked p (object ms) s h = blocked_members p ms s h
-  blocked p _ s h = absurd (true≢false h)
+  decided : (p : List ℕ → Bool) (v : Data) (s : Place) → Decided p (all_named p s v) (λ m. Mentions m s v)
+  decided p (string n) s = elim (cases_Bool (all_named p s (string n))) [ inl e ↦ inl (e, λ m x. ap p (sym x.1) ∙ passes_text p s n x.0 e) | inr e ↦ inr (e, blocks_text p s n e) ]
+  decided p (array ds) s = decided_items p ds (place_of_items s)
+  decided p (object ms) s = decided_members p ms s
+  decided p _ s = inl (refl, λ m x. absurd x)
 
-  blocked_items : (p : List ℕ → Bool) (ds : Items) (s : Place) → all_named_in_items p s ds ≡ false → (m : List ℕ) × MentionsInItems m s ds × (p m ≡ false)
-  blocked_items p no_items s h = absurd (true≢false h)
-  blocked_items p (item d ds) s h = elim (and_cases (all_named p s d) (all_named_in_items p s ds) h) [
-    | inl e ↦ (let (m, x, f) = blocked p d s e in (m, inl x, f))
-    | inr e ↦ (let (m, x, f) = blocked_items p ds s e in (m, inr x, f))
-  ]
+  decided_items : (p : List ℕ → Bool) (ds : Items) (s : Place) → Decided p (all_named_in_items p s ds) (λ m. MentionsInItems m s ds)
+  decided_items p no_items s = inl (refl, λ m x. absurd x)
+  decided_items p (item d ds) s = both_decided p _ _ _ _ (decided p d s) (decided_items p ds s)
 
-  blocked_members : (p : List ℕ → Bool) (ms : Members) (s : Place) → all_named_in_members p s ms ≡ false → (m : List ℕ) × MentionsInMembers m s ms × (p m ≡ false)
-  blocked_members p no_members s h = absurd (true≢false h)
-  blocked_members p (member k d ms) s h = elim (and_cases (all_named p (place_under s k) d) (all_named_in_members p s ms) h) [
-    | inl e ↦ (let (m, x, f) = blocked p d (place_under s k) e in (m, inl x, f))
-    | inr e ↦ (let (m, x, f) = blocked_members p ms s e in (m, inr x, f))
-  ]
+  decided_members : (p : List ℕ → Bool) (ms : Members) (s : Place) → Decided p (all_named_in_members p s ms) (λ m. MentionsInMembers m s ms)
+  decided_members p no_members s = inl (refl, λ m x. absurd x)
+  decided_members p (member k d ms) s = both_decided p _ _ _ _ (decided p d (place_under s k)) (decided_members p ms s)
+
+-- what a value names passes a test that every name in it passes
+pub mentioned : (p : List ℕ → Bool) (m : List ℕ) (v : Data) (s : Place) → all_named p s v ≡ true → Mentions m s v → p m ≡ true
+mentioned p m v s h x = elim (decided p v s) [ inl all ↦ all.1 m x | inr one ↦ absurd (true≢false (sym h ∙ one.0)) ]
+
+-- and else a name keeps it from its turn
+pub blocked : (p : List ℕ → Bool) (v : Data) (s : Place) → all_named p s v ≡ false → Blocks p s v
+blocked p v s h = elim (decided p v s) [ inl all ↦ absurd (true≢false (sym all.0 ∙ h)) | inr one ↦ one.1 ]
 
 -- ---- tests that all names pass
 
@@ -353,31 +326,27 @@ module _ (al : Members) (rs : Option Members) (p : List ℕ → Bool) (passes : 
   ]
 
   mutual
-    pub named : (v : Data) (s : Place) (taken : Bool) (seen : Members) → own_flaws al s taken v ≡ [] → inner_flaws al rs s seen v ≡ [] → all_named p s v ≡ true
-    named (string n) s taken seen o h = named_text s taken n o
-    named (array es) s taken seen o h = named_items es s 0 no_members h
-    named (object ms) s taken seen o h = named_members ms s seen h
-    named _ s taken seen o h = refl
+    pub named : (v : Data) (s : Place) (taken : Bool) (seen : Members) → flaws al rs s taken seen v ≡ [] → all_named p s v ≡ true
+    named (string n) s taken seen h = named_text s taken n (joined_empty _ _ h).0
+    named (array es) s taken seen h = named_items es s 0 no_members (joined_empty _ _ h).1
+    named (object ms) s taken seen h = named_members ms s seen (joined_empty _ _ h).1
+    named _ s taken seen h = refl
 
     named_items : (es : Items) (s : Place) (i : ℕ) (seen : Members) → item_flaws al rs s i seen es ≡ [] → all_named_in_items p (place_of_items s) es ≡ true
     named_items no_items s i seen h = refl
     named_items (item v es) s i seen h =
-        let (own, inner, later) = item_parts al rs s i seen v es h in
-        and_from (all_named p (place_of_items s) v) (all_named_in_items p (place_of_items s) es) (named v (place_of_items s) false seen own inner) (named_items es s (suc i) (mark v seen) later)
+        let (mine, later) = part_empty (within (index i)) _ _ h in
+        and_from (all_named p (place_of_items s) v) (all_named_in_items p (place_of_items s) es) (named v (place_of_items s) false seen mine) (named_items es s (suc i) (mark v seen) later)
 
     named_members : (ms : Members) (s : Place) (seen : Members) → member_flaws al rs s seen ms ≡ [] → all_named_in_members p s ms ≡ true
     named_members no_members s seen h = refl
     named_members (member k d ms) s seen h =
-        let (own, inner, later) = member_parts al rs s seen k d ms h in
-        and_from (all_named p (place_under s k) d) (all_named_in_members p s ms) (named d (place_under s k) (is_entry s && has seen k) no_members own inner) (named_members ms s seen later)
+        let (mine, later) = part_empty (within (key k)) _ _ h in
+        and_from (all_named p (place_under s k) d) (all_named_in_members p s ms) (named d (place_under s k) _ no_members (joined_empty _ _ mine).0) (named_members ms s seen later)
 
 -- names that pass a test pass each that is passed more often
 pub named_along : (p q : List ℕ → Bool) → ((n : List ℕ) → p n ≡ true → q n ≡ true) → (s : Place) (v : Data) → all_named p s v ≡ true → all_named q s v ≡ true
 named_along p q along s v h = elim (cases_Bool (all_named q s v)) [ inl e ↦ e | inr e ↦ (let (m, x, open_m) = blocked q v s e in absurd (true≢false (sym (along m (mentioned p m v s h x)) ∙ open_m))) ]
-
--- what all names pass, those of a value do
-pub all_pass : (s : Place) (v : Data) → all_named (λ n. true) s v ≡ true
-all_pass s v = elim (cases_Bool (all_named (λ n. true) s v)) [ inl e ↦ e | inr e ↦ absurd (true≢false (blocked (λ n. true) v s e).2) ]
 
 -- The first of several flaws.
 

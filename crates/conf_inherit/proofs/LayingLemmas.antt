@@ -1,11 +1,11 @@
 -- Objects whose names ascend: what they have at a name, and that their values at all names tell them apart.
-use Rattle.std.proofs.Common.{◌⊎◌, inr, inl, ◌≡◌, ℕ, List, Some, None, Ordering, Less, Equal, Greater, nat_cmp, is_eq, refl, sym, ap, ◌∙◌, subst, Option, Bool, true, false, true≢false, [], ◌∷◌, ◌++◌, ◌||◌, is_some, bytes_eq}
-use Rattle.std.proofs.{lemmas.Bool.{cases_Bool, or_parts}, lemmas.List.Folds.list_any-append, lemmas.Cmp.{nat_list_cmp_total, tied_itself}}
+use Rattle.std.proofs.Common.{String, Global, string_cmp, string_bytes, ◌⊎◌, inr, inl, ◌≡◌, ℕ, List, Some, None, Ordering, Less, Equal, Greater, nat_cmp, is_eq, refl, sym, ap, ◌∙◌, subst, Option, Bool, true, false, true≢false, [], ◌∷◌, ◌++◌, ◌||◌, is_some, bytes_eq}
+use Rattle.std.proofs.{lemmas.{Bool.{cases_Bool, or_parts, false_from_ne_true}, Option.same_Some}, lemmas.List.Folds.list_any-append, lemmas.Cmp.{nat_list_cmp_total, tied_itself}}
 use Rattle.std.proofs.{lemmas.Map.Text.is_eq-slice_cmp, lemmas.Slice.Eq.bytes_eq-Decides}
-use Rattle.std.specs.{Cmp.Lexicographic.slice_cmp, Ordering.ordering_reverse, List.list_any}
+use Rattle.std.specs.{Cmp.Lexicographic.slice_cmp, Ordering.ordering_reverse, List.{list_any, AllByRecursion}, List.Sorted.IsStrictlySortedBy, Map.keys_of}
 use Rattle.serde_json.specs.{Data.{Data, Members, no_members, member, array, Items, put, object, no_items, item}, Find.{get_member, get}}
-use Rattle.serde_json.proofs.Views.{get_member-put, get_member-put_other}
-use Rattle.serde_json.specs.{View.{view, items_view}, declared.value.Value.Value}
+use Rattle.serde_json.proofs.Views.{Entry, get_member-put, get_member-put_other}
+use Rattle.serde_json.specs.{View.{view, items_view, members_view}, declared.value.Value.Value}
 use Rattle.conf_inherit.specs.Names.{AllAbove, IsInOrder, join_items, map_items, names_of, join_members, NoClash, properties_of, items_in, entries_of, new_names, entry_values, member_names}
 use Rattle.conf_inherit.specs.{FieldPlaces.{place_under, is_base_name, lists_members}, Looks.{base_of, Entries, no_entry, an_entry}}
 use Rattle.conf_inherit.specs.Laying.{items_below, lay, lay_base, lay_members, lay_over, lay_new, has_entry, lay_new_member, lay_over_entry, lay_over_member, lay_new_entry}
@@ -47,9 +47,6 @@ some_is_none x e = cc
 pub cases_Option : {A : Type 0} (o : Option A) → (o ≡ None) ⊎ ((x : A) × (o ≡ Some x))
 cases_Option None = inl refl
 cases_Option (Some x) = inr (x, refl)
-
-pub value_same : {A : Type 0} (x y : A) → Some x ≡ Some y → x ≡ y
-value_same x y h = cc
 
 -- the same name, or another that is skipped
 pub data Meets (k l : List ℕ) : Type 0 where
@@ -97,7 +94,7 @@ same_members (member k d ms) (member l e ns) h i alike = elim (stands k l) [
   | inl is ↦ absurd (lower_missing k l d e ms ns is i.0 (alike k))
   | inr (inr is) ↦ absurd (lower_missing l k e d ns ms (above_turned k l is) h.0 (sym (alike l)))
   | inr (inl is) ↦ (let one : k ≡ l = equal_names k l is in
-      let value : d ≡ e = value_same d e (sym (get_first k d ms) ∙ alike k ∙ get_same k l e ns one) in
+      let value : d ≡ e = same_Some d e (sym (get_first k d ms) ∙ alike k ∙ get_same k l e ns one) in
       let agree : (q : List ℕ) → get_member q (member k d ms) ≡ get_member q (member k d ns) = λ q. alike q ∙ ap (λ x. get_member q (member x e ns)) (sym one) ∙ ap (λ x. get_member q (member k x ns)) (sym value) in
       ap (λ x. member x d ms) one ∙ ap (λ x. member l x ms) value ∙ ap (member l e) (same_members ms ns h.1 i.1 (rest_agrees k d ms ns h.0 (subst (λ x. AllAbove x ns) (sym one) i.0) agree)))
 ]
@@ -172,7 +169,7 @@ pub lay_members-found : (done : Members) (s : Place) (k : List ℕ) (v : Data) (
 lay_members-found done s k v no_members base b h = cc
 lay_members-found done s k v (member l d ms) base b h = elim (meets k l) [
   | same e ↦ (let is : is_base_name s l ≡ false = ap (is_base_name s) (sym e) ∙ b in
-      rw is (put_found k l _ _ e ∙ ap (λ x. Some (lay done (place_under s x) d (get_member x base))) (sym e) ∙ ap (λ x. Some (lay done (place_under s k) x (get_member k base))) (value_same d v (sym (get_same k l d ms e) ∙ h))))
+      rw is (put_found k l _ _ e ∙ ap (λ x. Some (lay done (place_under s x) d (get_member x base))) (sym e) ∙ ap (λ x. Some (lay done (place_under s k) x (get_member k base))) (same_Some d v (sym (get_same k l d ms e) ∙ h))))
   | other apart ↦ (let later = lay_members-found done s k v ms base b (sym (get_other k l d ms apart) ∙ h) in
       elim (cases_Bool (is_base_name s l)) [ inl is ↦ rw is later | inr is ↦ rw is (get_member-put_other k l _ _ apart ∙ later) ])
 ]
@@ -193,16 +190,15 @@ pub join_appended : (vs ws : List Value) → items_view (vs ++ ws) ≡ join_item
 join_appended [] ws = refl
 join_appended (v ∷ vs) ws = ap (item (view v)) (join_appended vs ws)
 
-pub differs : (n l : List ℕ) → (n ≡ l → ⊥) → (b : Bool) → bytes_eq n l ≡ b → b ≡ false
-differs n l apart true e = absurd (apart ((bytes_eq-Decides n l).0 e))
-differs n l apart false e = refl
+pub differs : (n l : List ℕ) → (n ≡ l → ⊥) → bytes_eq n l ≡ false
+differs n l apart = false_from_ne_true (bytes_eq n l) (λ e. apart ((bytes_eq-Decides n l).0 e))
 
 -- an object has a name where one of its names is that
 pub has_name : (n : List ℕ) (ms : Members) → is_some (get_member n ms) ≡ list_any (bytes_eq n) (names_of ms)
 has_name n no_members = refl
 has_name n (member l d ms) = elim (meets n l) [
   | same e ↦ (let g : bytes_eq n l ≡ true = (bytes_eq-Decides n l).1 e in rw (get_same n l d ms e, g) refl)
-  | other apart ↦ (let g : bytes_eq n l ≡ false = differs n l apart (bytes_eq n l) refl in rw (get_other n l d ms apart, g) (has_name n ms))
+  | other apart ↦ (let g : bytes_eq n l ≡ false = differs n l apart in rw (get_other n l d ms apart, g) (has_name n ms))
 ]
 
 names_joined : (a more : Members) → names_of (join_members a more) ≡ names_of a ++ names_of more
@@ -274,7 +270,7 @@ module _ (done : Members) (n : List ℕ) (r : Data) where
   over_found no_members rest v h = cc
   over_found (member m d ms) rest v h = elim (meets m n) [
     | same e ↦ (let found : get_member m (member n r no_members) ≡ Some r = get_same m n r no_members e in
-        let g : d ≡ v = value_same d v (sym (get_same n m d ms (sym e)) ∙ h) in
+        let g : d ≡ v = same_Some d v (sym (get_same n m d ms (sym e)) ∙ h) in
         rw found (ap (λ x. object (member x (lay done places.Member d (Some r)) no_members)) e ∙ ap (λ x. object (member n (lay done places.Member x (Some r)) no_members)) g))
     | other apart ↦ (let none : get_member m (member n r no_members) ≡ None = get_other m n r no_members apart in
         rw none (over_found ms rest v (sym (get_other n m d ms (λ e. apart (sym e))) ∙ h)))
@@ -305,7 +301,7 @@ all_joined P (member k d a) b h i = (h.0, all_joined P a b h.1 i)
 pub entry_found : (P : List ℕ → Data → Type 0) (ms : Members) → AllEntries P ms → (k : List ℕ) (w : Data) → get_member k ms ≡ Some w → P k w
 entry_found P no_members each k w h = cc
 entry_found P (member l d ms) each k w h = elim (meets k l) [
-  | same e ↦ subst (λ x. P x w) (sym e) (subst (P l) (value_same d w (sym (get_same k l d ms e) ∙ h)) each.0)
+  | same e ↦ subst (λ x. P x w) (sym e) (subst (P l) (same_Some d w (sym (get_same k l d ms e) ∙ h)) each.0)
   | other apart ↦ entry_found P ms each.1 k w (sym (get_other k l d ms apart) ∙ h)
 ]
 
@@ -316,7 +312,7 @@ each_has P (member l e ms) k d each (inr later) = each_has P ms k d each.1 later
 
 pub has_found : (k : List ℕ) (d : Data) (ms : Members) → get_member k ms ≡ Some d → HasMember k d ms
 has_found k d no_members h = cc
-has_found k d (member l e ms) h = elim (meets k l) [ same f ↦ inl (f, value_same d e (sym h ∙ get_same k l e ms f)) | other apart ↦ inr (has_found k d ms (sym (get_other k l e ms apart) ∙ h)) ]
+has_found k d (member l e ms) h = elim (meets k l) [ same f ↦ inl (f, same_Some d e (sym h ∙ get_same k l e ms f)) | other apart ↦ inr (has_found k d ms (sym (get_other k l e ms apart) ∙ h)) ]
 
 -- without a clash, each entry is what its name finds
 pub found_each : (ms : Members) → NoClash ms → AllEntries (λ k d. get_member k ms ≡ Some d) ms
@@ -350,3 +346,14 @@ no_values n (c ∷ cs) h =
     let parts = any_append n (member_names cs) (new_names (member_names cs) (names_of (entries_of (items_in c)))) h in
     let none : get_member n (entries_of (items_in c)) ≡ None = new_absent n (member_names cs) (entries_of (items_in c)) parts.0 parts.1 in
     rw none (no_values n cs parts.0)
+
+-- ---- the names of a map are in order
+
+pub above_of : (k : String Global) (es : List Entry) → AllByRecursion (λ y. string_cmp k y ≡ Less) (keys_of es) → AllAbove (string_bytes k) (members_view es)
+above_of k [] h = tt
+above_of k (e ∷ es) h = (h.0, above_of k es h.1)
+
+pub apart_of : (es : List Entry) → IsStrictlySortedBy string_cmp (keys_of es) → NoClash (members_view es)
+unfolding IsStrictlySortedBy
+apart_of [] h = tt
+apart_of (e ∷ es) h = (get_none (string_bytes e.0) (members_view es) (above_of e.0 es h.0), apart_of es h.1)

@@ -1,6 +1,6 @@
 -- A value laid over what stands for other values is looked up among itself and those values.
 use Rattle.std.proofs.Common.{◌≡◌, ℕ, List, [], ◌∷◌, Option, Some, None, Bool, true, false, refl, sym, ap, ◌∙◌, subst, if◌then◌else◌, true≢false, inl, inr, bytes_eq}
-use Rattle.std.proofs.lemmas.Bool.{cases_Bool}
+use Rattle.std.proofs.lemmas.{Bool.{cases_Bool}, Option.same_Some}
 use Rattle.std.specs.List.{list_any}
 use Rattle.serde_json.specs.{Data.{Data, string, array, object, Items, no_items, item, Members, no_members, member}, Find.get_member}
 use Rattle.conf_table.specs.declared.place.Place.{Place}
@@ -10,7 +10,7 @@ use Rattle.conf_inherit.specs.Laying.{lay, has_entry, lay_base, lay_members, lay
 use Rattle.conf_inherit.specs.Looks.{Chain, Looks, looks, Entries, no_entry, an_entry, base_of, if_objects, values_at, AreResolved, nothing, alias, member_alias, heir, own, a_list, plain, Shows, a_scalar, an_object, the_members, a_join, if_lists, IsPlain}
 use Rattle.conf_inherit.specs.Names.{NoClash, properties_of, items_in, entries_of, entry_values, join_items, map_items, IsInOrder, names_of, new_names, cons_some, values_in, member_names, joined}
 use Rattle.conf_inherit.specs.Ready.{IsReady, AreReady, HasReady, Names}
-use Rattle.conf_inherit.proofs.LayingLemmas.{cases_Option, has_found, each_has, Meets, same, other, meets, get_other, get_same, lay_base-own, lay_base-heir, in_order_lay, lay_members-base, lay_members-absent, lay_members-found, AllEntries, all_along, over_entries, over_found, new_entries, entry_found, all_joined, has_entry_names, over_absent, entry_names, entries_joined, found_each, no_values, value_same, some_is_none}
+use Rattle.conf_inherit.proofs.LayingLemmas.{cases_Option, has_found, each_has, Meets, same, other, meets, get_other, get_same, lay_base-own, lay_base-heir, in_order_lay, lay_members-base, lay_members-absent, lay_members-found, AllEntries, all_along, over_entries, over_found, new_entries, entry_found, all_joined, has_entry_names, over_absent, entry_names, entries_joined, found_each, no_values, some_is_none}
 use Rattle.conf_inherit.proofs.SizeLemmas.{NoLarger, NoLargerItems, as_large, as_large_items, items_through, no_larger_list, no_larger_object, next_value, further_value, turned_items, none_more, joined_behind, joined_larger, item_first, covered}
 use Rattle.conf_inherit.proofs.FieldPlaceLemmas.{base_named, list_place, entry_place, inheriting_place, alias_place, member_value_place, member_type_place, type_is_no_base, alias_field, base_place, SamePlace}
 use Rattle.conf_tree.specs.Walk.{HasMember}
@@ -158,25 +158,20 @@ module _ (done : Members) (P : Place → Data → Type 0) (of_plain : (s : Place
 -- ---- members lists and other lists
 
 module _ (al done : Members) where
+  plain_lists : (s : Place) (v : Data) → IsPlain s v → (items_in v ≡ no_items) × (if_lists (v ∷ []) ≡ [])
+  plain_lists s (array es) p = absurd p
+  plain_lists s _ p = (refl, refl)
+
   -- the items of a base, where lists are joined
   items_joined : {s : Place} {cs : List Data} {b : Data} → lists_members s ≡ false → Shows al s cs b → items_in b ≡ joined (if_lists cs)
-  items_joined {s} single (a_scalar {v = v} p) = plain_items v p
-    where
-      plain_items : (v : Data) → IsPlain s v → items_in v ≡ joined (if_lists (v ∷ []))
-      plain_items (array es) p = absurd p
-      plain_items _ p = refl
+  items_joined {s} single (a_scalar {v = v} p) = let (none, off) = plain_lists s v p in rw (none, off) refl
   items_joined single (an_object o f g) = refl
   items_joined single (the_members m e) = absurd (true≢false (sym m ∙ single))
   items_joined single (a_join m) = refl
 
   -- the entries of a base, at a members list
   pub base_entries : {s : Place} {cs : List Data} {b : Data} → lists_members s ≡ true → Shows al s cs b → Entries al (if_lists cs) (member_names (if_lists cs)) (items_in b)
-  base_entries {s} named (a_scalar {v = v} p) = plain_entries v p
-    where
-      plain_entries : (v : Data) → IsPlain s v → Entries al (if_lists (v ∷ [])) (member_names (if_lists (v ∷ []))) (items_in v)
-      plain_entries (array es) p = absurd p
-      plain_entries (object ms) p = absurd p
-      plain_entries _ p = no_entry
+  base_entries {s} named (a_scalar {v = v} p) = let (none, off) = plain_lists s v p in rw (none, off) no_entry
   base_entries named (an_object o f g) = no_entry
   base_entries named (the_members m e) = e
   base_entries named (a_join m) = absurd (true≢false (sym named ∙ m))
@@ -213,7 +208,7 @@ module _ (al done : Members) where
 
         each : (k : List ℕ) (d : Data) → get_member k named ≡ Some d → Lays al done (place_under places.Member k) d
         each k d h = elim (meets k field_type_name) [
-          | same e ↦ subst (λ t. Lays al done t d) (sym (ap (place_under places.Member) e ∙ member_type_place)) (subst (Lays al done places.FieldType) (value_same (string n) d (sym (get_same k field_type_name (string n) no_members e) ∙ h)) type_at)
+          | same e ↦ subst (λ t. Lays al done t d) (sym (ap (place_under places.Member) e ∙ member_type_place)) (subst (Lays al done places.FieldType) (same_Some (string n) d (sym (get_same k field_type_name (string n) no_members e) ∙ h)) type_at)
           | other apart ↦ absurd (some_is_none d (sym (sym (get_other k field_type_name (string n) no_members apart) ∙ h)))
         ]
 
@@ -300,7 +295,7 @@ module _ (al done : Members) where
         → get_member k (lay_members done s ms no_members) ≡ Some d → (e : Data) × (get_member k (lay_members done s ms base) ≡ Some e) × NoLarger d e
     laid_larger k v d cs base g is found there =
         let (vs, stands) = property_stands s k cs base g in
-        let laid = value_same (lay done (place_under s k) v None) d (sym (lay_members-found done s k v ms no_members is found) ∙ there) in
+        let laid = same_Some (lay done (place_under s k) v None) d (sym (lay_members-found done s k v ms no_members is found) ∙ there) in
         (lay done (place_under s k) v (get_member k base), lay_members-found done s k v ms base is found, subst (λ x. NoLarger x (lay done (place_under s k) v (get_member k base))) laid (each k v found vs (get_member k base) stands))
 
     property_larger : (k : List ℕ) (d : Data) (cs : List Data) (base : Members) → Ground al s cs base → get_member k (lay_members done s ms no_members) ≡ Some d
@@ -343,7 +338,7 @@ module _ (al done : Members) where
       let new = lay_new_member done ms seen no_items in
       elim (meets m n) [
         | same e ↦ (let at = get_same m n r no_members e in
-            let one = ap (λ x. laid_entry done x d) e ∙ ap (laid_entry done n) (value_same d v (sym (get_same n m d ms (sym e)) ∙ h)) in
+            let one = ap (λ x. laid_entry done x d) e ∙ ap (laid_entry done n) (same_Some d v (sym (get_same n m d ms (sym e)) ∙ h)) in
             let later : NoLargerItems old new = subst (NoLargerItems old) (new_absent n r rs ms (subst (λ x. get_member x ms ≡ None) e clear.0)) (as_large_items old) in
             elim (cases_Bool (has_entry m rs)) [
               | inl is ↦ rw (at, is) (further_value (laid_entry done n v) later)

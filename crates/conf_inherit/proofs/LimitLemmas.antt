@@ -1,19 +1,29 @@
 -- What is said of a value whose names are all resolved is said of it too where more aliases are resolved.
-use Rattle.std.proofs.Common.{if◌then◌else◌, ◌||◌, ◌≡◌, ◌&&◌, ◌++◌, ℕ, suc, List, map, Option, Some, None, is_some, unwrap_or, Bool, true, false, not, refl, ap, ◌∙◌, subst, ◌⊎◌, inl, inr, ◌↔◌, [], ◌∷◌, Result, Ok, Err, nat_lt, true≢false, sym, arith}
+use Rattle.std.proofs.Common.{cond, if◌then◌else◌, ◌||◌, ◌≡◌, ◌&&◌, ◌++◌, ℕ, suc, List, Option, Some, None, is_some, unwrap_or, Bool, true, false, not, refl, ap, ◌∙◌, subst, ◌⊎◌, inl, inr, ◌↔◌, [], ◌∷◌, Result, Ok, Err, nat_lt, true≢false, sym, arith}
 use Rattle.std.proofs.lemmas.Bool.{or_parts, and_parts, cases_Bool, ltb-false}
-use Rattle.serde_json.specs.{Data.{Data, null, string, array, object, Items, no_items, item, Members, no_members, member, put}, Find.{get, get_member}}
+use Rattle.serde_json.specs.{Data.{Data, null, string, array, object, Items, no_items, item, Members, no_members, member}, Find.{get, get_member}}
 use Rattle.conf_tree.specs.{Flaw.{key, index, within, Flaw, here}, declared.fault_kind.FaultKind.FaultKind}
 use Rattle.conf_tree.specs.{Walk.refusal, declared.fault_kind.FaultKind.TheVariants.{TooDeep, Limit, WrongKind, NoSuchAlias, NameClash}}
 use Rattle.conf_table.specs.declared.place.Place.{Place}
 use Rattle.conf_inherit.specs.FieldPlaces.{place_under, place_of_items, names_alias, names_member_type, is_base_name, lists_members, is_entry, field_type_name}
 use Rattle.conf_inherit.specs.{Flaws.{is_wrong, is_unknown, own_flaws, base_flaws, inner_flaws, item_flaws, member_flaws, type_flaws, mark, flaws}, Size.size}
-use Rattle.conf_inherit.specs.Laying.{members_below, items_below, lay_text, has_entry, lay, lay_base, lay_members, lay_over, lay_over_entry, lay_over_member, lay_new, lay_new_entry, lay_new_member}
+use Rattle.conf_inherit.specs.Laying.{members_below, items_below, lay_text, lay, lay_base, lay_members, lay_over, lay_over_member, lay_new, lay_new_member}
 use Rattle.conf_inherit.specs.Limits.{fitting, passed, limit_flaws, max_values, max_levels, Fits, Exceeds, Inherits, InheritsInItems, InheritsInMembers}
-use Rattle.conf_inherit.specs.{Named.{all_named, all_named_in_items, all_named_in_members, has}, Names.{join_items, map_items}, Faults.Leads, Nesting.nests}
+use Rattle.conf_inherit.specs.{Named.{all_named, all_named_in_items, all_named_in_members, has}, Names.{join_items, map_items, entries_of, properties_of}, Faults.Leads, Nesting.nests}
 use Rattle.conf_inherit.proofs.FaultLemmas.{named_along, same_part, part_empty, joined_empty, Each, no_flaw, a_flaw, joined, first_told, IsTold, flaws_told}
-use Rattle.conf_inherit.proofs.{LayingLemmas.same_function, FieldPlaceLemmas.{list_place, entry_place, base_place, alias_place}}
+use Rattle.conf_inherit.proofs.{LayingLemmas.{same_function, over_entries, new_entries, AllEntries, all_joined}, FieldPlaceLemmas.{list_place, entry_place, base_place, alias_place}}
 use Rattle.conf_table.specs.declared.place.Place.TheVariants as places
 use borrow.Author.Tests.{ltb-true}
+
+-- the limit that a value of a `$inherit` passes, where the resolved aliases are known
+abbrev pub limits : Option Members → Data → List Flaw
+limits None d = []
+limits (Some done) d = limit_flaws done places.FieldType d
+
+base_limits : (known : Option Members) (s : Place) (k : List ℕ) (d : Data) → base_flaws known s k d ≡ cond (is_base_name s k) (limits known d) []
+unfolding base_flaws
+base_limits None s k d = elim (cases_Bool (is_base_name s k)) [ inl is ↦ rw is refl | inr is ↦ rw is refl ]
+base_limits (Some done) s k d = refl
 
 -- the flaws of a value are the same for aliases of the same names, where those of each value of a `$inherit` are
 module _ (al now : Members) (names : (n : List ℕ) → has now n ≡ has al n) where
@@ -25,30 +35,45 @@ module _ (al now : Members) (names : (n : List ℕ) → has now n ≡ has al n) 
   unfolding own_flaws
   alike_own s taken v = ap (λ t. if is_wrong s v then here WrongKind ∷ [] else if t then here NoSuchAlias ∷ [] else if taken then here NameClash ∷ [] else []) (alike_unknown s v)
 
-  module _ (rs ks : Option Members) (p : List ℕ → Bool) (bases : (s : Place) (k : List ℕ) (d : Data) → all_named p (place_under s k) d ≡ true → base_flaws ks s k d ≡ base_flaws rs s k d) where
-    alike_with : (s : Place) (taken : Bool) (seen : Members) (v : Data) → inner_flaws now ks s seen v ≡ inner_flaws al rs s seen v → flaws now ks s taken seen v ≡ flaws al rs s taken seen v
-    alike_with s taken seen v inner = ap (λ x. x ++ inner_flaws now ks s seen v) (alike_own s taken v) ∙ ap (λ x. own_flaws al s taken v ++ x) inner
+  module _ (rs ks : Option Members) where
+    alike_base : (s : Place) (k : List ℕ) (d : Data) → (is_base_name s k ≡ true → limits ks d ≡ limits rs d) → base_flaws ks s k d ≡ base_flaws rs s k d
+    alike_base s k d h = elim (cases_Bool (is_base_name s k)) [ inl is ↦ rw (base_limits ks s k d, base_limits rs s k d, is) (h is) | inr is ↦ rw (base_limits ks s k d, base_limits rs s k d, is) refl ]
+
+    pub alike_flaws : (s : Place) (taken : Bool) (seen : Members) (v : Data) → inner_flaws now ks s seen v ≡ inner_flaws al rs s seen v → flaws now ks s taken seen v ≡ flaws al rs s taken seen v
+    alike_flaws s taken seen v inner = ap (λ x. x ++ inner_flaws now ks s seen v) (alike_own s taken v) ∙ ap (λ x. own_flaws al s taken v ++ x) inner
 
     mutual
-      pub alike_in : (v : Data) (s : Place) (seen : Members) → all_named p s v ≡ true → inner_flaws now ks s seen v ≡ inner_flaws al rs s seen v
+      pub alike_in : (v : Data) (s : Place) (seen : Members) → ((d : Data) → Inherits d s v → limits ks d ≡ limits rs d) → inner_flaws now ks s seen v ≡ inner_flaws al rs s seen v
       alike_in (array es) s seen h = alike_in_items es s 0 no_members h
       alike_in (object ms) s seen h = alike_in_members ms s seen h
       alike_in _ s seen h = refl
 
-      alike_in_items : (es : Items) (s : Place) (i : ℕ) (seen : Members) → all_named_in_items p (place_of_items s) es ≡ true → item_flaws now ks s i seen es ≡ item_flaws al rs s i seen es
+      alike_in_items : (es : Items) (s : Place) (i : ℕ) (seen : Members) → ((d : Data) → InheritsInItems d (place_of_items s) es → limits ks d ≡ limits rs d) → item_flaws now ks s i seen es ≡ item_flaws al rs s i seen es
       alike_in_items no_items s i seen h = refl
       alike_in_items (item e es) s i seen h =
-          let parts = and_parts (all_named p (place_of_items s) e) (all_named_in_items p (place_of_items s) es) h in
-          same_part (within (index i)) _ _ _ _ _ _ (alike_own (place_of_items s) false e) (alike_in e (place_of_items s) seen parts.0) (alike_in_items es s (suc i) (mark e seen) parts.1)
+          same_part (within (index i)) _ _ _ _ _ _ (alike_own (place_of_items s) false e) (alike_in e (place_of_items s) seen (λ d x. h d (inl x))) (alike_in_items es s (suc i) (mark e seen) (λ d x. h d (inr x)))
 
-      alike_in_members : (ms : Members) (s : Place) (seen : Members) → all_named_in_members p s ms ≡ true → member_flaws now ks s seen ms ≡ member_flaws al rs s seen ms
+      alike_in_members : (ms : Members) (s : Place) (seen : Members) → ((d : Data) → InheritsInMembers d s ms → limits ks d ≡ limits rs d) → member_flaws now ks s seen ms ≡ member_flaws al rs s seen ms
       alike_in_members no_members s seen h = refl
-      alike_in_members (member k d ms) s seen h =
-          let parts = and_parts (all_named p (place_under s k) d) (all_named_in_members p s ms) h in
-          same_part (within (key k)) _ _ _ _ _ _ (alike_with (place_under s k) (is_entry s && is_some (get_member k seen)) no_members d (alike_in d (place_under s k) no_members parts.0)) (bases s k d parts.0) (alike_in_members ms s seen parts.1)
+      alike_in_members (member k e ms) s seen h =
+          same_part (within (key k)) _ _ _ _ _ _ (alike_flaws (place_under s k) (is_entry s && is_some (get_member k seen)) no_members e (alike_in e (place_under s k) no_members (λ d x. h d (inl (inr x))))) (alike_base s k e (λ is. h e (inl (inl (is, refl))))) (alike_in_members ms s seen (λ d x. h d (inr x)))
 
-    pub alike_flaws : (s : Place) (taken : Bool) (seen : Members) (v : Data) → all_named p s v ≡ true → flaws now ks s taken seen v ≡ flaws al rs s taken seen v
-    alike_flaws s taken seen v h = alike_with s taken seen v (alike_in v s seen h)
+-- each value of a `$inherit` in a value names what the value does
+mutual
+  pub inherited_named : (p : List ℕ → Bool) (v : Data) (s : Place) (d : Data) → all_named p s v ≡ true → Inherits d s v → all_named p places.FieldType d ≡ true
+  inherited_named p (array es) s d h x = inherited_in_items p es (place_of_items s) d h x
+  inherited_named p (object ms) s d h x = inherited_in_members p ms s d h x
+  inherited_named p _ s d h x = absurd x
+
+  inherited_in_items : (p : List ℕ → Bool) (es : Items) (s : Place) (d : Data) → all_named_in_items p s es ≡ true → InheritsInItems d s es → all_named p places.FieldType d ≡ true
+  inherited_in_items p no_items s d h x = absurd x
+  inherited_in_items p (item e es) s d h x = let parts = and_parts (all_named p s e) (all_named_in_items p s es) h in elim x [ inl y ↦ inherited_named p e s d parts.0 y | inr y ↦ inherited_in_items p es s d parts.1 y ]
+
+  inherited_in_members : (p : List ℕ → Bool) (ms : Members) (s : Place) (d : Data) → all_named_in_members p s ms ≡ true → InheritsInMembers d s ms → all_named p places.FieldType d ≡ true
+  inherited_in_members p no_members s d h x = absurd x
+  inherited_in_members p (member k e ms) s d h x =
+      let parts = and_parts (all_named p (place_under s k) e) (all_named_in_members p s ms) h in
+      elim x [ inl (inl (is, same)) ↦ rw (same, ← base_place s k is) parts.0 | inl (inr y) ↦ inherited_named p e (place_under s k) d parts.0 y | inr y ↦ inherited_in_members p ms s d parts.1 y ]
 
 module _ (done more : Members) (kept : (n : List ℕ) → has done n ≡ true → get_member n more ≡ get_member n done) where
   -- all that a value names is resolved
@@ -65,14 +90,26 @@ module _ (done more : Members) (kept : (n : List ℕ) → has done n ≡ true �
     | inr e ↦ (let none = or_parts (names_alias s) (names_member_type s) e in rw (none.0, none.1) refl)
   ]
 
+  -- a value is laid to the same, over whatever base
+  abbrev IsKept : Data → Type 0
+  IsKept d = (base : Option Data) → lay more places.Member d base ≡ lay done places.Member d base
+
+  kept_over : (ms : Members) → AllEntries (λ n d. IsKept d) ms → (b rest : Data) → lay_over_member more ms b rest ≡ lay_over_member done ms b rest
+  kept_over no_members each b rest = refl
+  kept_over (member n d ms) each b rest = rw (each.0 (get n b), kept_over ms each.1 b rest) refl
+
+  kept_new : (ms : Members) → AllEntries (λ n d. IsKept d) ms → (seen : Items) → lay_new_member more ms seen no_items ≡ lay_new_member done ms seen no_items
+  kept_new no_members each seen = refl
+  kept_new (member n d ms) each seen = rw (each.0 None, kept_new ms each.1 seen) refl
+
   mutual
     pub kept_lay : (v : Data) (s : Place) (base : Option Data) → IsNamed s v → lay more s v base ≡ lay done s v base
     kept_lay (string n) s base h = kept_text s n h
     kept_lay (array es) s base h = elim (cases_Bool (lists_members s)) [
-      | inl is ↦ (let named = subst (λ t. all_named_in_items (has done) t es ≡ true) (list_place s is) h in
-          rw is
-          (ap (λ f. array (join_items (map_items f (items_below base)) (lay_new more es (items_below base)))) (same_function (λ b. lay_over more es b) (λ b. lay_over done es b) (kept_over es named))
-          ∙ ap (λ x. array (join_items (map_items (λ b. lay_over done es b) (items_below base)) x)) (kept_new es (items_below base) named)))
+      | inl is ↦ (let each = kept_entries es (subst (λ t. all_named_in_items (has done) t es ≡ true) (list_place s is) h) in
+          let over = same_function (λ b. lay_over more es b) (λ b. lay_over done es b) (λ b. over_entries more es b ∙ kept_over (entries_of es) each b b ∙ sym (over_entries done es b)) in
+          let new = new_entries more es (items_below base) ∙ kept_new (entries_of es) each (items_below base) ∙ sym (new_entries done es (items_below base)) in
+          rw is (ap (λ f. array (join_items (map_items f (items_below base)) (lay_new more es (items_below base)))) over ∙ ap (λ x. array (join_items (map_items (λ b. lay_over done es b) (items_below base)) x)) new))
       | inr is ↦ rw is refl
     ]
     kept_lay (object ms) s base h =
@@ -92,62 +129,30 @@ module _ (done more : Members) (kept : (n : List ℕ) → has done n ≡ true �
     kept_members no_members s base h = refl
     kept_members (member k d ms) s base h =
         let parts = and_parts (all_named (has done) (place_under s k) d) (all_named_in_members (has done) s ms) h in
-        let later = kept_members ms s base parts.1 in
-        elim (cases_Bool (is_base_name s k)) [
-          | inl is ↦ rw is later
-          | inr is ↦ rw is (ap (λ x. put k x (lay_members more s ms base)) (kept_lay d (place_under s k) (get_member k base) parts.0) ∙ ap (put k (lay done (place_under s k) d (get_member k base))) later)
-        ]
+        rw (kept_lay d (place_under s k) (get_member k base) parts.0, kept_members ms s base parts.1) refl
 
-    kept_over : (es : Items) → all_named_in_items (has done) places.Entry es ≡ true → (b : Data) → lay_over more es b ≡ lay_over done es b
-    kept_over no_items h b = refl
-    kept_over (item e es) h b = kept_over_entry e b (lay_over more es b) (lay_over done es b) (and_parts (all_named (has done) places.Entry e) (all_named_in_items (has done) places.Entry es) h).0
-        (kept_over es (and_parts (all_named (has done) places.Entry e) (all_named_in_items (has done) places.Entry es) h).1 b)
+    kept_entries : (es : Items) → all_named_in_items (has done) places.Entry es ≡ true → AllEntries (λ n d. IsKept d) (entries_of es)
+    kept_entries no_items h = tt
+    kept_entries (item e es) h =
+        let parts = and_parts (all_named (has done) places.Entry e) (all_named_in_items (has done) places.Entry es) h in
+        all_joined (λ n d. IsKept d) (properties_of e) (entries_of es) (kept_entry e parts.0) (kept_entries es parts.1)
 
-    kept_over_entry : (e b rest last : Data) → IsNamed places.Entry e → rest ≡ last → lay_over_entry more e b rest ≡ lay_over_entry done e b last
-    kept_over_entry (object ms) b rest last h same = kept_over_member ms b rest last h same
-    kept_over_entry _ b rest last h same = same
+    kept_entry : (e : Data) → IsNamed places.Entry e → AllEntries (λ n d. IsKept d) (properties_of e)
+    kept_entry (object ms) h = kept_properties ms h
+    kept_entry _ h = tt
 
-    kept_over_member : (ms : Members) (b rest last : Data) → all_named_in_members (has done) places.Entry ms ≡ true → rest ≡ last → lay_over_member more ms b rest ≡ lay_over_member done ms b last
-    kept_over_member no_members b rest last h same = same
-    kept_over_member (member n d ms) b rest last h same =
+    kept_properties : (ms : Members) → all_named_in_members (has done) places.Entry ms ≡ true → AllEntries (λ n d. IsKept d) ms
+    kept_properties no_members h = tt
+    kept_properties (member n d ms) h =
         let parts = and_parts (all_named (has done) (place_under places.Entry n) d) (all_named_in_members (has done) places.Entry ms) h in
-        elim (cases_Bool (is_some (get n b))) [
-          | inl is ↦ rw is (ap (λ x. object (member n x no_members)) (kept_lay d places.Member (get n b) (subst (λ t. all_named (has done) t d ≡ true) (entry_place n) parts.0)))
-          | inr is ↦ rw is (kept_over_member ms b rest last parts.1 same)
-        ]
-
-    kept_new : (es seen : Items) → all_named_in_items (has done) places.Entry es ≡ true → lay_new more es seen ≡ lay_new done es seen
-    kept_new no_items seen h = refl
-    kept_new (item e es) seen h = kept_new_entry e seen (lay_new more es seen) (lay_new done es seen) (and_parts (all_named (has done) places.Entry e) (all_named_in_items (has done) places.Entry es) h).0
-        (kept_new es seen (and_parts (all_named (has done) places.Entry e) (all_named_in_items (has done) places.Entry es) h).1)
-
-    kept_new_entry : (e : Data) (seen rest last : Items) → IsNamed places.Entry e → rest ≡ last → lay_new_entry more e seen rest ≡ lay_new_entry done e seen last
-    kept_new_entry (object ms) seen rest last h same = kept_new_member ms seen rest last h same
-    kept_new_entry _ seen rest last h same = same
-
-    kept_new_member : (ms : Members) (seen rest last : Items) → all_named_in_members (has done) places.Entry ms ≡ true → rest ≡ last → lay_new_member more ms seen rest ≡ lay_new_member done ms seen last
-    kept_new_member no_members seen rest last h same = same
-    kept_new_member (member n d ms) seen rest last h same =
-        let parts = and_parts (all_named (has done) (place_under places.Entry n) d) (all_named_in_members (has done) places.Entry ms) h in
-        let later = kept_new_member ms seen rest last parts.1 same in
-        elim (cases_Bool (has_entry n seen)) [
-          | inl is ↦ rw is later
-          | inr is ↦ rw is (ap (λ x. item (object (member n x no_members)) (lay_new_member more ms seen rest)) (kept_lay d places.Member None (subst (λ t. all_named (has done) t d ≡ true) (entry_place n) parts.0)) ∙ ap (item (object (member n (lay done places.Member d None) no_members))) later)
-        ]
+        (λ base. kept_lay d places.Member base (subst (λ t. all_named (has done) t d ≡ true) (entry_place n) parts.0), kept_properties ms parts.1)
 
   kept_limit : (s : Place) (v : Data) → IsNamed s v → limit_flaws more s v ≡ limit_flaws done s v
   kept_limit s v h = rw (more_named s v h, h) (ap (λ r. passed (fitting r)) (kept_lay v s None h))
 
-  kept_base_flaws : (s : Place) (k : List ℕ) (d : Data) → IsNamed (place_under s k) d → base_flaws (Some more) s k d ≡ base_flaws (Some done) s k d
-  unfolding base_flaws
-  kept_base_flaws s k d h = elim (cases_Bool (is_base_name s k)) [
-    | inl is ↦ rw is (kept_limit places.FieldType d (subst (λ t. all_named (has done) t d ≡ true) (base_place s k is) h))
-    | inr is ↦ rw is refl
-  ]
-
   module _ (al : Members) where
     pub kept_inner : (v : Data) (s : Place) (seen : Members) → IsNamed s v → inner_flaws al (Some more) s seen v ≡ inner_flaws al (Some done) s seen v
-    kept_inner v s seen h = alike_in al al (λ n. refl) (Some done) (Some more) (has done) kept_base_flaws v s seen h
+    kept_inner v s seen h = alike_in al al (λ n. refl) (Some done) (Some more) v s seen (λ d x. kept_limit places.FieldType d (inherited_named (has done) v s d h x))
 
     -- the flaws of a type stay the same
     pub kept_flaws : (s : Place) (v : Data) → IsNamed s v → type_flaws al more s v ≡ type_flaws al done s v
@@ -212,114 +217,64 @@ name_limit done s v n m is same names named =
     ∙ ap (λ x. passed (fitting (lay done s x None))) (sym is)
     ∙ sym at
 
--- two lists are empty alike, where P holds
-abbrev Alike : List Flaw → List Flaw → Type 0 → Type 0
-Alike xs ys P = (xs ≡ [] → (ys ≡ []) × P) × ((ys ≡ []) × P → xs ≡ [])
-
 pub both_empty : {A : Type 0} (xs ys : List A) → xs ≡ [] → ys ≡ [] → xs ++ ys ≡ []
 both_empty [] ys e h = h
 both_empty (x ∷ xs) ys e h = cc
 
-alike_joined : (xs ys zs ws : List Flaw) (P Q : Type 0) → Alike xs ys P → Alike zs ws Q → Alike (xs ++ zs) (ys ++ ws) (P × Q)
-alike_joined xs ys zs ws P Q a b = (
-  λ e. let l = a.0 (joined_empty xs zs e).0 in let r = b.0 (joined_empty xs zs e).1 in (both_empty ys ws l.0 r.0, (l.1, r.1)),
-  λ h. both_empty xs zs (a.1 ((joined_empty ys ws h.0).0, h.1.0)) (b.1 ((joined_empty ys ws h.0).1, h.1.1)),
-)
-
-alike_part : (f : Flaw → Flaw) (xs ys zs ws : List Flaw) (P Q : Type 0) → Alike xs ys P → Alike zs ws Q → Alike (map f xs ++ zs) (map f ys ++ ws) (P × Q)
-alike_part f xs ys zs ws P Q a b = (
-  λ e. let l = a.0 (part_empty f xs zs e).0 in let r = b.0 (part_empty f xs zs e).1 in (both_empty (map f ys) ws (ap (map f) l.0) r.0, (l.1, r.1)),
-  λ h. both_empty (map f xs) zs (ap (map f) (a.1 ((part_empty f ys ws h.0).0, h.1.0))) (b.1 ((part_empty f ys ws h.0).1, h.1.1)),
-)
-
-alike_along : (xs ys : List Flaw) (P Q : Type 0) → (P → Q) → (Q → P) → Alike xs ys P → Alike xs ys Q
-alike_along xs ys P Q there back a = ((λ e. let h = a.0 e in (h.0, there h.1)), (λ h. a.1 (h.0, back h.1)))
-
-alike_same : (xs : List Flaw) → Alike xs xs (Unit {0})
-alike_same xs = ((λ e. (e, tt)), (λ h. h.0))
-
 module _ (done : Members) where
   -- a field type, by itself, fits, if it resolves
-  abbrev FitsAlone : Place → Data → Type 0
+  abbrev pub FitsAlone : Place → Data → Type 0
   FitsAlone s d = all_named (has done) s d ≡ true → Fits (lay done s d None)
 
   -- all of these do
-  abbrev EachFits : (Data → Type 0) → Type 0
+  abbrev pub EachFits : (Data → Type 0) → Type 0
   EachFits In = (d : Data) → In d → FitsAlone places.FieldType d
 
-  pub alike_limit : (s : Place) (v : Data) → Alike (limit_flaws done s v) [] (FitsAlone s v)
-  alike_limit s v = elim (cases_Bool (all_named (has done) s v)) [
-    | inl is ↦ (let at : limit_flaws done s v ≡ passed (fitting (lay done s v None)) = rw is refl in ((λ e. (refl, λ x. (fits_at (lay done s v None) (fitting (lay done s v None)) (judged (lay done s v None))).0 (sym at ∙ e))), (λ h. at ∙ (fits_at (lay done s v None) (fitting (lay done s v None)) (judged (lay done s v None))).1 (h.1 is))))
-    | inr is ↦ (let at : limit_flaws done s v ≡ [] = rw is refl in ((λ e. (refl, λ x. absurd (true≢false (sym x ∙ is)))), (λ h. at)))
+  pub limit_fits : (s : Place) (v : Data) → limit_flaws done s v ≡ [] ↔ FitsAlone s v
+  limit_fits s v = elim (cases_Bool (all_named (has done) s v)) [
+    | inl is ↦ (let fit = fits_at (lay done s v None) _ (judged (lay done s v None)) in rw is ((λ e x. fit.0 e), (λ h. fit.1 (h refl))))
+    | inr is ↦ rw is ((λ e x. absurd (true≢false (sym x))), (λ h. refl))
   ]
-
-  abbrev BaseFits : Place → List ℕ → Data → Type 0
-  BaseFits s k d = is_base_name s k ≡ true → FitsAlone places.FieldType d
-
-  alike_base : (s : Place) (k : List ℕ) (d : Data) → Alike (base_flaws (Some done) s k d) (base_flaws None s k d) (BaseFits s k d)
-  unfolding base_flaws
-  alike_base s k d = elim (cases_Bool (is_base_name s k)) [
-    | inl is ↦ (let at : base_flaws (Some done) s k d ≡ limit_flaws done places.FieldType d = rw is refl in
-        let a = alike_limit places.FieldType d in
-        ((λ e. (refl, λ x. (a.0 (sym at ∙ e)).1)), (λ h. at ∙ a.1 (refl, h.1 is))))
-    | inr is ↦ (let at : base_flaws (Some done) s k d ≡ [] = rw is refl in ((λ e. (refl, λ x. absurd (true≢false (sym x ∙ is)))), (λ h. at)))
-  ]
-
-  -- d is what the value of a name is inherited from as, or is in it, or in what is left
-  member_there : (s : Place) (k : List ℕ) (e : Data) (ms : Members) → ((Unit {0} × EachFits (λ d. Inherits d (place_under s k) e)) × BaseFits s k e) × EachFits (λ d. InheritsInMembers d s ms) → EachFits (λ d. InheritsInMembers d s (member k e ms))
-  member_there s k e ms h d (inl (inl (is, same))) named = subst (λ x. Fits (lay done places.FieldType x None)) (sym same) (h.0.1 is (subst (λ x. all_named (has done) places.FieldType x ≡ true) same named))
-  member_there s k e ms h d (inl (inr a)) named = h.0.0.1 d a named
-  member_there s k e ms h d (inr a) named = h.1 d a named
-
-  member_back : (s : Place) (k : List ℕ) (e : Data) (ms : Members) → EachFits (λ d. InheritsInMembers d s (member k e ms)) → ((Unit {0} × EachFits (λ d. Inherits d (place_under s k) e)) × BaseFits s k e) × EachFits (λ d. InheritsInMembers d s ms)
-  member_back s k e ms h = (((tt, (λ d a. h d (inl (inr a)))), (λ is. h e (inl (inl (is, refl))))), (λ d a. h d (inr a)))
 
   module _ (al : Members) where
+    -- where a value has no flaw, no value of a `$inherit` in it passes a limit
     mutual
-      pub alike_inner : (v : Data) (s : Place) (seen : Members) → Alike (inner_flaws al (Some done) s seen v) (inner_flaws al None s seen v) (EachFits (λ d. Inherits d s v))
-      alike_inner (array es) s seen = alike_items es s 0 no_members
-      alike_inner (object ms) s seen = alike_members ms s seen
-      alike_inner _ s seen = ((λ e. (refl, λ d h. absurd h)), (λ h. refl))
+      bases_free : (v : Data) (s : Place) (taken : Bool) (seen : Members) → flaws al (Some done) s taken seen v ≡ [] → (d : Data) → Inherits d s v → limit_flaws done places.FieldType d ≡ []
+      bases_free (array es) s taken seen h d x = bases_free_items es s 0 no_members (joined_empty (own_flaws al s taken (array es)) (item_flaws al (Some done) s 0 no_members es) h).1 d x
+      bases_free (object ms) s taken seen h d x = bases_free_members ms s seen (joined_empty (own_flaws al s taken (object ms)) (member_flaws al (Some done) s seen ms) h).1 d x
+      bases_free _ s taken seen h d x = absurd x
 
-      alike_items : (es : Items) (s : Place) (i : ℕ) (seen : Members) → Alike (item_flaws al (Some done) s i seen es) (item_flaws al None s i seen es) (EachFits (λ d. InheritsInItems d (place_of_items s) es))
-      alike_items no_items s i seen = ((λ e. (refl, λ d h. absurd h)), (λ h. refl))
-      alike_items (item e es) s i seen =
-          let t = place_of_items s in
-          let own = own_flaws al t false e in
-          let In : Data → Type 0 = λ d. Inherits d t e in
-          let On : Data → Type 0 = λ d. InheritsInItems d t es in
-          alike_along (item_flaws al (Some done) s i seen (item e es)) (item_flaws al None s i seen (item e es)) ((Unit {0} × EachFits In) × EachFits On) (EachFits (λ d. InheritsInItems d t (item e es)))
-          (λ h d a named. elim a [ inl b ↦ h.0.1 d b named | inr c ↦ h.1 d c named ]) (λ h. ((tt, (λ d a. h d (inl a))), (λ d a. h d (inr a))))
-          (alike_part (within (index i)) (own ++ inner_flaws al (Some done) t seen e) (own ++ inner_flaws al None t seen e) (item_flaws al (Some done) s (suc i) (mark e seen) es) (item_flaws al None s (suc i) (mark e seen) es)
-          (Unit {0} × EachFits In) (EachFits On)
-          (alike_joined own own (inner_flaws al (Some done) t seen e) (inner_flaws al None t seen e) (Unit {0}) (EachFits In) (alike_same own) (alike_inner e t seen))
-          (alike_items es s (suc i) (mark e seen)))
+      bases_free_items : (es : Items) (s : Place) (i : ℕ) (seen : Members) → item_flaws al (Some done) s i seen es ≡ [] → (d : Data) → InheritsInItems d (place_of_items s) es → limit_flaws done places.FieldType d ≡ []
+      bases_free_items no_items s i seen h d x = absurd x
+      bases_free_items (item e es) s i seen h d x =
+          let (mine, later) = part_empty (within (index i)) (flaws al (Some done) (place_of_items s) false seen e) (item_flaws al (Some done) s (suc i) (mark e seen) es) h in
+          elim x [ inl y ↦ bases_free e (place_of_items s) false seen mine d y | inr y ↦ bases_free_items es s (suc i) (mark e seen) later d y ]
 
-      alike_members : (ms : Members) (s : Place) (seen : Members) → Alike (member_flaws al (Some done) s seen ms) (member_flaws al None s seen ms) (EachFits (λ d. InheritsInMembers d s ms))
-      alike_members no_members s seen = ((λ e. (refl, λ d h. absurd h)), (λ h. refl))
-      alike_members (member k e ms) s seen =
-          let t = place_under s k in
-          let own = own_flaws al t (is_entry s && is_some (get_member k seen)) e in
-          let In : Data → Type 0 = λ d. Inherits d t e in
-          let On : Data → Type 0 = λ d. InheritsInMembers d s ms in
-          alike_along (member_flaws al (Some done) s seen (member k e ms)) (member_flaws al None s seen (member k e ms)) (((Unit {0} × EachFits In) × BaseFits s k e) × EachFits On) (EachFits (λ d. InheritsInMembers d s (member k e ms)))
-          (member_there s k e ms) (member_back s k e ms)
-          (alike_part (within (key k)) ((own ++ inner_flaws al (Some done) t no_members e) ++ base_flaws (Some done) s k e) ((own ++ inner_flaws al None t no_members e) ++ base_flaws None s k e)
-          (member_flaws al (Some done) s seen ms) (member_flaws al None s seen ms) ((Unit {0} × EachFits In) × BaseFits s k e) (EachFits On)
-          (alike_joined (own ++ inner_flaws al (Some done) t no_members e) (own ++ inner_flaws al None t no_members e) (base_flaws (Some done) s k e) (base_flaws None s k e) (Unit {0} × EachFits In) (BaseFits s k e)
-          (alike_joined own own (inner_flaws al (Some done) t no_members e) (inner_flaws al None t no_members e) (Unit {0}) (EachFits In) (alike_same own) (alike_inner e t no_members))
-          (alike_base s k e))
-          (alike_members ms s seen))
+      bases_free_members : (ms : Members) (s : Place) (seen : Members) → member_flaws al (Some done) s seen ms ≡ [] → (d : Data) → InheritsInMembers d s ms → limit_flaws done places.FieldType d ≡ []
+      bases_free_members no_members s seen h d x = absurd x
+      bases_free_members (member k e ms) s seen h d x =
+          let taken = is_entry s && is_some (get_member k seen) in
+          let all = flaws al (Some done) (place_under s k) taken no_members e in
+          let (mine, later) = part_empty (within (key k)) (all ++ base_flaws (Some done) s k e) (member_flaws al (Some done) s seen ms) h in
+          let (whole, base) = joined_empty all (base_flaws (Some done) s k e) mine in
+          elim x [
+            | inl (inl (is, same)) ↦ rw same (sym (base_limits (Some done) s k e ∙ rw is refl) ∙ base)
+            | inl (inr y) ↦ bases_free e (place_under s k) taken no_members whole d y
+            | inr y ↦ bases_free_members ms s seen later d y
+          ]
+
+    -- the other flaws are those where no resolved alias is known
+    pub fits_inside : (v : Data) (s : Place) (taken : Bool) (seen : Members) → flaws al (Some done) s taken seen v ≡ [] → (flaws al None s taken seen v ≡ []) × EachFits (λ d. Inherits d s v)
+    fits_inside v s taken seen h =
+        let free = bases_free v s taken seen h in
+        (alike_flaws al al (λ n. refl) (Some done) None s taken seen v (alike_in al al (λ n. refl) (Some done) None v s seen (λ d x. sym (free d x))) ∙ h, λ d x. (limit_fits places.FieldType d).0 (free d x))
 
     -- nothing is refused exactly where there is no other flaw, and the type and all that it inherits from fit
     pub sound_type : (s : Place) (v : Data) → type_flaws al done s v ≡ [] ↔ ((flaws al None s false no_members v ≡ []) × FitsAlone s v × EachFits (λ d. Inherits d s v))
     sound_type s v =
-        let own = own_flaws al s false v in
-        let inner = alike_joined own own (inner_flaws al (Some done) s no_members v) (inner_flaws al None s no_members v) (Unit {0}) (EachFits (λ d. Inherits d s v)) (alike_same own) (alike_inner v s no_members) in
-        let all = flaws al (Some done) s false no_members v in
-        let limit = alike_limit s v in (
-          λ e. let a = inner.0 (joined_empty all (limit_flaws done s v) e).0 in let b = limit.0 (joined_empty all (limit_flaws done s v) e).1 in (a.0, b.1, a.1.1),
-          λ h. both_empty all (limit_flaws done s v) (inner.1 (h.0, (tt, h.2))) (limit.1 (refl, h.1)),
+        let all = flaws al (Some done) s false no_members v in (
+          λ e. let (none, limit) = joined_empty all (limit_flaws done s v) e in let fit = fits_inside v s false no_members none in (fit.0, (limit_fits s v).0 limit, fit.1),
+          λ h. both_empty all (limit_flaws done s v) (alike_flaws al al (λ n. refl) None (Some done) s false no_members v (alike_in al al (λ n. refl) None (Some done) v s no_members (λ d x. (limit_fits places.FieldType d).1 (h.2 d x))) ∙ h.0) ((limit_fits s v).1 h.1),
         )
 
     -- ---- a limit that is refused

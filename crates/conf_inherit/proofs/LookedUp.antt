@@ -1,6 +1,6 @@
 -- Values are looked up as at most one.
-use Rattle.std.proofs.Common.{inr, inl, ◌≡◌, ℕ, List, [], ◌∷◌, Option, Some, None, true, true≢false, refl, sym, ap, ◌∙◌, subst, option_and_then, false, option_map}
-use Rattle.std.proofs.lemmas.Bool.{cases_Bool, or_parts, or_from}
+use Rattle.std.proofs.Common.{inr, inl, ◌≡◌, ◌<◌, ℕ, zero, suc, arith, List, [], ◌∷◌, Option, Some, None, true, true≢false, refl, sym, ap, ◌∙◌, subst, option_and_then, false, option_map}
+use Rattle.std.proofs.lemmas.{Bool.{cases_Bool, or_parts, or_from}, Option.same_Some}
 use Rattle.std.specs.List.{AllByRecursion}
 use Rattle.serde_json.specs.Data.{Data, array, object, Items, item, Members, no_members, member, string, no_items, null, boolean, number, put}
 use Rattle.serde_json.specs.{Find.{get_member, get}, Written.{has_float, items_have_float, members_have_float}}
@@ -9,10 +9,11 @@ use Rattle.conf_table.specs.declared.place.Place.{Place}
 use Rattle.conf_table.specs.declared.place.Place.TheVariants as places
 use Rattle.conf_inherit.specs.FieldPlaces.{place_under, names_alias, names_member_type, is_base_name, field_type_name}
 use Rattle.conf_inherit.specs.Looks.{Chain, nothing, alias, member_alias, heir, own, a_list, plain, Looks, looks, Shows, a_scalar, an_object, the_members, a_join, Entries, no_entry, an_entry, if_objects, if_lists, values_at, base_of}
-use Rattle.conf_inherit.specs.Names.{properties_of, items_in, entries_of, join_items, cons_some, values_in, entry_values, joined, NoClash}
+use Rattle.conf_inherit.specs.Names.{properties_of, items_in, entries_of, join_members, join_items, cons_some, values_in, entry_values, joined, NoClash}
 use Rattle.conf_inherit.specs.Resolution.{members_or_none, trace_name, type_name, aliases_name, aliases_of, Resolves}
-use Rattle.conf_inherit.proofs.LayingLemmas.{value_same, each_has, has_found, same_members, get_none, AllEntries, all_along, all_joined, entry_found, found_each, in_order_put, put_keeps}
+use Rattle.conf_inherit.proofs.LayingLemmas.{some_is_none, each_has, has_found, same_members, get_none, AllEntries, all_along, all_joined, entry_found, found_each, in_order_put, put_keeps}
 use Rattle.conf_inherit.proofs.FieldPlaceLemmas.{base_named}
+use Rattle.conf_inherit.specs.Faults.{HasEntry}
 use Rattle.conf_tree.specs.{Order.{IsInOrder, Ascends, ItemsAscend, MembersAscend}, Walk.{HasMember, IsTreeOf}}
 use Rattle.json.specs.Json as json
 use Rattle.json.specs.Lex.{tokens}
@@ -236,10 +237,10 @@ each_put k d (member l e ms) mine h = put_keeps MembersAscend k l d e ms (λ is.
 
 mutual
   json_in_order : (j : json.Json) (d : Data) → of_json j ≡ Some d → Ascends d
-  json_in_order json.null d e = subst Ascends (value_same null d e) tt
-  json_in_order (json.boolean b) d e = subst Ascends (value_same (boolean b) d e) tt
+  json_in_order json.null d e = subst Ascends (same_Some null d e) tt
+  json_in_order (json.boolean b) d e = subst Ascends (same_Some (boolean b) d e) tt
   json_in_order (json.number s) d e = let n = mapped number (number_of s) d e in subst Ascends n.2 tt
-  json_in_order (json.string s) d e = subst Ascends (value_same (string s) d e) tt
+  json_in_order (json.string s) d e = subst Ascends (same_Some (string s) d e) tt
   json_in_order (json.array js) d e = let ds = mapped array (of_items js) d e in subst Ascends ds.2 (items_in_order js ds.0 ds.1)
   json_in_order (json.object js) d e = let ms = mapped object (of_members js no_members) d e in subst Ascends ms.2 (members_in_order js no_members ms.0 ms.1 tt tt)
 
@@ -276,3 +277,37 @@ members_apart _ h = tt
 
 pub aliases_apart : (text : List ℕ) (t : Data) → IsTreeOf text t → NoClash (aliases_of t)
 aliases_apart text t tree = members_apart _ (of_aliases Ascends property_in_order t (read_in_order text t tree.0.1))
+
+-- ---- entries without a clash
+
+has_first : (a b : Members) (n : List ℕ) (d : Data) → HasMember n d a → HasMember n d (join_members a b)
+has_first no_members b n d there = absurd there
+has_first (member k x a) b n d (inl same) = inl same
+has_first (member k x a) b n d (inr later) = inr (has_first a b n d later)
+
+has_later : (a b : Members) (n : List ℕ) (d : Data) → HasMember n d b → HasMember n d (join_members a b)
+has_later no_members b n d there = there
+has_later (member k x a) b n d there = inr (has_later a b n d there)
+
+entry_has : (es : Items) (j : ℕ) (n : List ℕ) → HasEntry j n es → (d : Data) × HasMember n d (entries_of es)
+entry_has no_items j n (ms, d, is, there) = absurd cc
+entry_has (item e es) zero n (ms, d, is, there) = (d, has_first (properties_of e) (entries_of es) n d (rw (same_Some e (object ms) is) there))
+entry_has (item e es) (suc j) n h = let (d, there) = entry_has es j n h in (d, has_later (properties_of e) (entries_of es) n d there)
+
+clear_later : (a b : Members) → NoClash (join_members a b) → NoClash b
+clear_later no_members b clear = clear
+clear_later (member k x a) b clear = clear_later a b clear.1
+
+clash_joined : (a b : Members) (n : List ℕ) (d c : Data) → NoClash (join_members a b) → HasMember n d a → HasMember n c b → ⊥
+clash_joined no_members b n d c clear there later = absurd there
+clash_joined (member k x a) b n d c clear (inl same) later =
+    some_is_none c (sym (each_has (λ l e. get_member l (join_members a b) ≡ Some e) (join_members a b) n c (found_each (join_members a b) clear.1) (has_later a b n c later)) ∙ ap (λ l. get_member l (join_members a b)) same.0 ∙ clear.0)
+clash_joined (member k x a) b n d c clear (inr rest) later = clash_joined a b n d c clear.1 rest later
+
+-- no entry of a members list without a clash has the name of one before it
+pub no_twice : (es : Items) (i j : ℕ) (n : List ℕ) → NoClash (entries_of es) → i < j → HasEntry i n es → HasEntry j n es → ⊥
+no_twice no_items i j n clear before (ms, d, is, there) second = cc
+no_twice (item e es) i zero n clear before first second = omega arith
+no_twice (item e es) zero (suc j) n clear before (ms, d, is, there) second =
+    let (c, later) = entry_has es j n second in clash_joined (properties_of e) (entries_of es) n d c clear (rw (same_Some e (object ms) is) there) later
+no_twice (item e es) (suc i) (suc j) n clear before first second = no_twice es i j n (clear_later (properties_of e) (entries_of es) clear) (omega arith) first second

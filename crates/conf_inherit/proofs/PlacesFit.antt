@@ -1,19 +1,19 @@
 -- Where a field type fits, and each value of a `$inherit` in it by itself, each field type in it fits by itself.
-use Rattle.std.proofs.Common.{◌≡◌, ◌&&◌, ◌⊎◌, inl, inr, ℕ, zero, suc, Bool, true, false, true≢false, List, [], ◌∷◌, Some, None, is_some, refl, sym, subst, ap, ◌∙◌}
-use Rattle.std.proofs.lemmas.Bool.{cases_Bool}
+use Rattle.std.proofs.Common.{◌≡◌, ◌⊎◌, inl, inr, ℕ, zero, suc, true, false, true≢false, List, [], ◌∷◌, Some, None, refl, sym, subst, ap, ◌∙◌}
+use Rattle.std.proofs.lemmas.{Bool.{cases_Bool}, Option.same_Some}
 use Rattle.serde_json.specs.{Data.{Data, array, object, Items, no_items, item, Members, no_members, member}, Find.{get_item, get_member}}
 use Rattle.conf_tree.specs.{Flaw.{Place as Step, key, index, within}, Order.{Ascends, ItemsAscend}, Walk.HasMember}
 use Rattle.conf_table.specs.{declared.place.Place.Place, Table.{rows_of, entries_of, content_under, place_in}}
-use Rattle.conf_inherit.specs.FieldPlaces.{field_place, place_under, place_of_items, names_alias, names_member_type, is_base_name, lists_members, is_entry, leads_on}
+use Rattle.conf_inherit.specs.FieldPlaces.{field_place, place_under, place_of_items, names_alias, names_member_type, is_base_name, lists_members, leads_on}
 use Rattle.conf_inherit.specs.{Faults.{Leads, ListsTooMany}, Limits.{Fits, Inherits, InheritsInItems, InheritsInMembers, limit_flaws}, Ready.{Names, IsReady}}
-use Rattle.conf_inherit.specs.{Flaws.{is_wrong, is_no_entry, own_flaws, inner_flaws, flaws, type_flaws, mark}, Places.{inner_places, item_places, place_flaws}}
+use Rattle.conf_inherit.specs.{Flaws.{is_wrong, is_no_entry, type_flaws, mark}, Places.{inner_places, item_places, place_flaws}}
 use Rattle.conf_inherit.specs.{Laying.{lay, lay_base, lay_members, lay_new, lay_new_entry, lay_new_member, has_entry, members_below}, Named.{all_named, has}}
 use Rattle.conf_inherit.specs.Looks.{AreResolved}
-use Rattle.conf_inherit.proofs.{LaysOver.{laid_entry, property_stands, ground_base, grows}, LayingLemmas.{each_has, lay_members-found, found_each, value_same}}
+use Rattle.conf_inherit.proofs.{LaysOver.{laid_entry, property_stands, ground_base, grows}, LayingLemmas.{each_has, lay_members-found, found_each}}
 use Rattle.conf_inherit.proofs.FaultLemmas.{named, own_sound, ready, single_entry, part_empty, joined_empty}
 use Rattle.conf_inherit.proofs.SizeLemmas.{NoLargerItems, as_large, as_large_items, items_through, next_value, further_value, none_more, fits_below, property_fits, item_fits}
-use Rattle.conf_inherit.proofs.{LookedUp.{apart, member_in_order}, LimitLemmas.{sound_type, alike_inner, alike_limit}}
-use Rattle.conf_inherit.proofs.SoundPlaces.{PartSound, member_sound, item_sound, PlaceSound, member_place, object_places, list_places, extras_there, root_place, place_of_type, place_of_member, IsOutside, under_outside, on_or_ignored, extras_or_ignored, LeadsElsewhere, under_elsewhere, items_elsewhere, no_extras, extras_fine}
+use Rattle.conf_inherit.proofs.{LookedUp.{apart, member_in_order}, LimitLemmas.{EachFits, sound_type, fits_inside, limit_fits}}
+use Rattle.conf_inherit.proofs.SoundPlaces.{SoundAt, sound_under, sound_item, parts, member_place, object_places, list_places, extras_there, root_place, place_of_type, place_of_member, IsOutside, under_outside, on_or_ignored, extras_or_ignored, LeadsElsewhere, under_elsewhere, items_elsewhere, no_extras, extras_fine}
 use Rattle.conf_inherit.proofs.FieldPlaceLemmas.{list_place, base_place, ignored_under, alias_place, member_value_place, entry_place}
 use Rattle.conf_table.specs.declared.place.Place.TheVariants as places
 
@@ -47,7 +47,7 @@ ignored_fine done s path v t w ignored leads =
 
 item_in_order : (es : Items) (i : ℕ) (d : Data) → ItemsAscend es → get_item i es ≡ Some d → Ascends d
 item_in_order no_items i d each there = absurd cc
-item_in_order (item e es) zero d each there = subst Ascends (value_same e d there) each.0
+item_in_order (item e es) zero d each there = subst Ascends (same_Some e d there) each.0
 item_in_order (item e es) (suc i) d each there = item_in_order es i d each.1 there
 
 pub inherits_under : (x : Data) (s : Place) (ms : Members) (k : List ℕ) (d : Data) → HasMember k d ms → Inherits x (place_under s k) d → InheritsInMembers x s ms
@@ -62,7 +62,7 @@ base_inherits s (member l e ms) k d is (inr later) = inr (base_inherits s ms k d
 
 pub inherits_in_item : (x : Data) (s : Place) (es : Items) (i : ℕ) (d : Data) → get_item i es ≡ Some d → Inherits x s d → InheritsInItems x s es
 inherits_in_item x s no_items i d there h = absurd cc
-inherits_in_item x s (item e es) zero d there h = inl (subst (Inherits x s) (sym (value_same e d there)) h)
+inherits_in_item x s (item e es) zero d there h = inl (subst (Inherits x s) (sym (same_Some e d there)) h)
 inherits_in_item x s (item e es) (suc i) d there h = inr (inherits_in_item x s es i d there h)
 
 -- ---- the entries of a members list that is laid over nothing
@@ -83,7 +83,7 @@ module _ (done : Members) where
   entry_stands : (es : Items) (i : ℕ) (n : List ℕ) (d : Data) → get_item i es ≡ Some (object (member n d no_members)) → NoLargerItems (item (laid_entry done n d) no_items) (lay_new done es no_items)
   entry_stands no_items i n d there = absurd cc
   entry_stands (item e es) zero n d there =
-      subst (λ x. NoLargerItems (item (laid_entry done n d) no_items) (lay_new_entry done x no_items (lay_new done es no_items))) (sym (value_same e (object (member n d no_members)) there))
+      subst (λ x. NoLargerItems (item (laid_entry done n d) no_items) (lay_new_entry done x no_items (lay_new done es no_items))) (sym (same_Some e (object (member n d no_members)) there))
       (next_value (laid_entry done n d) (laid_entry done n d) (as_large (laid_entry done n d)) none_more)
   entry_stands (item e es) (suc i) n d there =
       items_through (entry_stands es i n d there) (behind_entry e no_items (lay_new done es no_items))
@@ -108,43 +108,38 @@ module _ (done : Members) where
 module _ (al done : Members) (known : AreResolved al done) (all : (n : List ℕ) → has al n ≡ true → has done n ≡ true) where
   -- a value without a flaw fits, laid over nothing, and so does each value of a `$inherit` in it
   pub record IsFit (s : Place) (v : Data) : Type 0 where
-    pub taken : Bool
-    pub seen : Members
     pub elsewhere : LeadsElsewhere s
-    pub sound : PartSound al s taken seen v
+    pub sound : SoundAt al s v
     pub in_order : Ascends v
     pub inherited : (d : Data) → Inherits d s v → all_named (has done) places.FieldType d ≡ true → Fits (lay done places.FieldType d None)
     pub whole : Fits (lay done s v None)
 
-  pub sound_named : (s : Place) (v : Data) (taken : Bool) (seen : Members) → PartSound al s taken seen v → all_named (has done) s v ≡ true
-  sound_named s v taken seen h = named al None (has done) all v s taken seen h.own h.inner
+  pub sound_named : (s : Place) (v : Data) → SoundAt al s v → all_named (has done) s v ≡ true
+  sound_named s v h = named al None (has done) all v s h.taken h.seen h.sound
 
-  sound_ready : (s : Place) (v : Data) (taken : Bool) (seen : Members) → PartSound al s taken seen v → IsReady done s v
-  sound_ready s v taken seen h = ready al None done v s seen h.inner (sound_named s v taken seen h)
+  pub sound_ready : (s : Place) (v : Data) → SoundAt al s v → IsReady done s v
+  sound_ready s v h = ready al None done v s h.taken h.seen h.sound (sound_named s v h)
 
   -- a value of a `$inherit`, or another property
   property_fit : (s : Place) (ms : Members) (k : List ℕ) (d : Data) (h : IsFit s (object ms)) → HasMember k d ms → Fits (lay done (place_under s k) d None)
   property_fit s ms k d h there =
-      let taken = is_entry s && is_some (get_member k h.seen) in
-      let part = member_sound al s h.seen ms k d h.sound.inner there in
+      let part = sound_under al s ms k d h.sound there in
       elim (cases_Bool (is_base_name s k)) [
         | inl is ↦ (let place = base_place s k is in
-            subst (λ x. Fits (lay done x d None)) (sym place) (h.inherited d (base_inherits s ms k d is there) (subst (λ x. all_named (has done) x d ≡ true) place (sound_named (place_under s k) d taken no_members part))))
+            subst (λ x. Fits (lay done x d None)) (sym place) (h.inherited d (base_inherits s ms k d is there) (subst (λ x. all_named (has done) x d ≡ true) place (sound_named (place_under s k) d part))))
         | inr is ↦ (let base = members_below (lay_base done s ms None) in
             let found = each_has (λ n e. get_member n ms ≡ Some e) ms k d (found_each ms (apart ms h.in_order.0)) there in
-            let (cs, g) = ground_base al done known s ms (sound_ready s (object ms) h.taken h.seen h.sound) in
+            let (cs, g) = ground_base al done known s ms (sound_ready s (object ms) h.sound) in
             let (vs, stands) = property_stands al done s k cs base g in
             let laid = lay done (place_under s k) d (get_member k base) in
-            fits_below (lay done (place_under s k) d None) laid (grows al done d (place_under s k) (sound_ready (place_under s k) d taken no_members part) vs (get_member k base) stands)
+            fits_below (lay done (place_under s k) d None) laid (grows al done d (place_under s k) (sound_ready (place_under s k) d part) vs (get_member k base) stands)
             (property_fits k laid (lay_members done s ms base) (lay_members-found done s k d ms base is found) h.whole))
       ]
 
   fit_under : (s : Place) (ms : Members) (k : List ℕ) (d : Data) → IsFit s (object ms) → HasMember k d ms → IsFit (place_under s k) d
   fit_under s ms k d h there = record {
-    taken = is_entry s && is_some (get_member k h.seen);
-    seen = no_members;
     elsewhere = under_elsewhere s k h.elsewhere;
-    sound = member_sound al s h.seen ms k d h.sound.inner there;
+    sound = sound_under al s ms k d h.sound there;
     in_order = member_in_order ms k d h.in_order.1 there;
     inherited = λ x is. h.inherited x (inherits_under x s ms k d there is);
     whole = property_fit s ms k d h there;
@@ -152,14 +147,12 @@ module _ (al done : Members) (known : AreResolved al done) (all : (n : List ℕ)
 
   fit_entry : (s : Place) (es : Items) (i : ℕ) (e : Data) → lists_members s ≡ true → IsFit s (array es) → get_item i es ≡ Some e → IsFit (place_of_items s) e
   fit_entry s es i e is h there =
-      let one = item_sound al s 0 no_members es i e h.sound.inner there in
+      let one = sound_item al s es i e h.sound there in
       let place = list_place s is in
-      let right = (own_sound al (place_of_items s) false e one.sound.own).right in
+      let right = (own_sound al (place_of_items s) one.taken e (joined_empty _ _ one.sound).0).right in
       record {
-        taken = false;
-        seen = one.marks;
         elsewhere = items_elsewhere s;
-        sound = one.sound;
+        sound = one;
         in_order = item_in_order es i e h.in_order there;
         inherited = λ x within. h.inherited x (inherits_in_item x (place_of_items s) es i e there within);
         whole = subst (λ t. Fits (lay done t e None)) (sym place) (entry_fits done s es i e is (single_entry e (subst (λ t. is_wrong t e ≡ false) place right)) there h.whole);
@@ -194,95 +187,85 @@ entry_unnamed (inl h) = true≢false (sym h)
 entry_unnamed (inr h) = true≢false (sym h)
 
 module _ (al done : Members) (known : AreResolved al done) (all : (n : List ℕ) → has al n ≡ true → has done n ≡ true) where
-  type_fit : (v : Data) (taken : Bool) (seen : Members) → PartSound al places.FieldType taken seen v → Ascends v → type_flaws al done places.FieldType v ≡ [] → IsFit al done known all places.FieldType v
-  type_fit v taken seen part ordered none =
+  type_fit : (v : Data) → SoundAt al places.FieldType v → Ascends v → type_flaws al done places.FieldType v ≡ [] → IsFit al done known all places.FieldType v
+  type_fit v at ordered none =
       let sound = (sound_type done al places.FieldType v).0 none in
-      record { taken = taken; seen = seen; elsewhere = refl; sound = part; in_order = ordered; inherited = sound.2; whole = sound.1 (sound_named al done known all places.FieldType v taken seen part) }
+      record { elsewhere = refl; sound = at; in_order = ordered; inherited = sound.2; whole = sound.1 (sound_named al done known all places.FieldType v at) }
 
   -- ---- the extra members of a packet context
 
-  -- an extra member has no flaw, and its field type is within the limits
+  -- an extra member has no flaw, each value of a `$inherit` in it fits, and its field type is within the limits
   record ExtraSound (e : Data) : Type 0 where
-    marks : Members
-    flawless : flaws al (Some done) places.Entry false marks e ≡ []
+    sound : SoundAt al places.Entry e
+    inherited : EachFits done (λ d. Inherits d places.Entry e)
     places : inner_places al done places.Entry e ≡ []
 
   item_place : (i : ℕ) (seen : Members) (es : Items) (j : ℕ) (e : Data) → item_places al done places.ExtraMembers i seen es ≡ [] → get_item j es ≡ Some e → ExtraSound e
   unfolding place_of_items
   item_place i seen no_items j e none there = absurd cc
   item_place i seen (item x es) zero e none there =
-      let (flawless, places) = joined_empty _ _ (part_empty (within (index i)) _ _ none).0 in
-      subst ExtraSound (value_same x e there) (record { marks = seen; flawless = flawless; places = places })
+      let (flawless, inner) = joined_empty _ _ (part_empty (within (index i)) _ _ none).0 in
+      let inside = fits_inside done al x places.Entry false seen flawless in
+      subst ExtraSound (same_Some x e there) (record { sound = record { taken = false; seen = seen; sound = inside.0 }; inherited = inside.1; places = inner })
   item_place i seen (item x es) (suc j) e none there = item_place (suc i) (mark x seen) es j e (part_empty (within (index i)) _ _ none).1 there
 
-  extra_inherits : (e : Data) → ExtraSound e → (d : Data) → Inherits d places.Entry e → all_named (has done) places.FieldType d ≡ true → Fits (lay done places.FieldType d None)
-  extra_inherits e h = ((alike_inner done al e places.Entry h.marks).0 (joined_empty (own_flaws al places.Entry false e) (inner_flaws al (Some done) places.Entry h.marks e) h.flawless).1).1
-
-  member_fit : (ms : Members) (k : List ℕ) (d : Data) (marks : Members) → PartSound al places.Entry false marks (object ms) → Ascends (object ms) → ExtraSound (object ms) → HasMember k d ms → IsFit al done known all (place_under places.Entry k) d
+  member_fit : (ms : Members) (k : List ℕ) (d : Data) → Ascends (object ms) → ExtraSound (object ms) → HasMember k d ms → IsFit al done known all (place_under places.Entry k) d
   unfolding leads_on names_alias names_member_type
-  member_fit ms k d marks part ordered h there =
-      let mine = member_sound al places.Entry marks ms k d part.inner there in
+  member_fit ms k d ordered h there =
+      let mine = sound_under al places.Entry ms k d h.sound there in
       let place = member_place al done places.Entry ms k d (object_places al done places.Entry ms refl h.places) there in
       let none : limit_flaws done places.Member d ≡ [] =
-      sym (place_of_member al done places.Member d refl refl) ∙ subst (λ t. place_flaws al done t d ≡ []) (entry_place k) place.own in
-      let whole = ((alike_limit done places.Member d).0 none).1 in
+      sym (place_of_member al done places.Member d refl refl) ∙ subst (λ t. place_flaws al done t d ≡ []) (entry_place k) (joined_empty _ _ place).0 in
+      let whole = (limit_fits done places.Member d).0 none in
       record {
-        taken = _;
-        seen = no_members;
         elsewhere = under_elsewhere places.Entry k refl;
         sound = mine;
         in_order = member_in_order ms k d ordered.1 there;
-        inherited = λ x within. extra_inherits (object ms) h x (inherits_under x places.Entry ms k d there within);
-        whole = subst (λ t. Fits (lay done t d None)) (sym (entry_place k)) (whole (subst (λ t. all_named (has done) t d ≡ true) (entry_place k) (sound_named al done known all (place_under places.Entry k) d _ no_members mine)));
+        inherited = λ x within. h.inherited x (inherits_under x places.Entry ms k d there within);
+        whole = subst (λ t. Fits (lay done t d None)) (sym (entry_place k)) (whole (subst (λ t. all_named (has done) t d ≡ true) (entry_place k) (sound_named al done known all (place_under places.Entry k) d mine)));
       }
 
-  extra_along : (path : List Step) (e : Data) (t : Place) (w : Data) (marks : Members) → PartSound al places.Entry false marks e → Ascends e → ExtraSound e → Leads places.Entry e path t w → IsFine done t w
+  extra_along : (path : List Step) (e : Data) (t : Place) (w : Data) → Ascends e → ExtraSound e → Leads places.Entry e path t w → IsFine done t w
   unfolding place_of_items
-  extra_along [] e t w marks part ordered h (place, value) = subst (λ x. IsFine done x w) place ((λ names. absurd (entry_unnamed names)), no_extras places.Entry w refl)
-  extra_along (index i ∷ path) e t w marks part ordered h (es, d, is, there, leads) = ignored_fine done (place_of_items places.Entry) path d t w refl leads
-  extra_along (key k ∷ path) e t w marks part ordered h (ms, d, is, there, leads) =
-      fits_along al done known all path (place_under places.Entry k) d t w (member_fit ms k d marks (subst (PartSound al places.Entry false marks) is part) (subst Ascends is ordered) (subst ExtraSound is h) there) leads
+  extra_along [] e t w ordered h (place, value) = subst (λ x. IsFine done x w) place ((λ names. absurd (entry_unnamed names)), no_extras places.Entry w refl)
+  extra_along (index i ∷ path) e t w ordered h (es, d, is, there, leads) = ignored_fine done (place_of_items places.Entry) path d t w refl leads
+  extra_along (key k ∷ path) e t w ordered h (ms, d, is, there, leads) =
+      fits_along al done known all path (place_under places.Entry k) d t w (member_fit ms k d (subst Ascends is ordered) (subst ExtraSound is h) there) leads
 
   -- nothing is wrong with a value, nor at the places in it
   record SoundPlace (s : Place) (v : Data) : Type 0 where
-    taken : Bool
-    seen : Members
-    sound : PartSound al s taken seen v
+    sound : SoundAt al s v
     in_order : Ascends v
-    places : PlaceSound al done s v
+    places : parts al done s v ≡ []
 
   type_along : (path : List Step) (s : Place) (v : Data) (t : Place) (w : Data) → SoundPlace s v → names_alias s ≡ true → Leads s v path t w → IsFine done t w
   type_along path s v t w h is leads =
       let place = alias_place s is in
-      let none = sym (place_of_type al done s v is) ∙ h.places.own in
-      fits_along al done known all path places.FieldType v t w
-      (type_fit v h.taken h.seen (subst (λ x. PartSound al x h.taken h.seen v) place h.sound) h.in_order (subst (λ x. type_flaws al done x v ≡ []) place none))
+      let none = sym (place_of_type al done s v is) ∙ (joined_empty _ _ h.places).0 in
+      fits_along al done known all path places.FieldType v t w (type_fit v (subst (λ x. SoundAt al x v) place h.sound) h.in_order (subst (λ x. type_flaws al done x v ≡ []) place none))
       (subst (λ x. Leads x v path t w) place leads)
 
-  sound_under : (s : Place) (ms : Members) (k : List ℕ) (d : Data) → SoundPlace s (object ms) → leads_on s ≡ true → HasMember k d ms → SoundPlace (place_under s k) d
-  sound_under s ms k d h on there = record {
-    taken = _;
-    seen = no_members;
-    sound = member_sound al s h.seen ms k d h.sound.inner there;
+  place_under_sound : (s : Place) (ms : Members) (k : List ℕ) (d : Data) → SoundPlace s (object ms) → leads_on s ≡ true → HasMember k d ms → SoundPlace (place_under s k) d
+  place_under_sound s ms k d h on there = record {
+    sound = sound_under al s ms k d h.sound there;
     in_order = member_in_order ms k d h.in_order.1 there;
-    places = member_place al done s ms k d (object_places al done s ms on h.places.inner) there;
+    places = member_place al done s ms k d (object_places al done s ms on (joined_empty _ _ h.places).1) there;
   }
 
   extras_along : (path : List Step) (i : ℕ) (es : Items) (d : Data) (t : Place) (w : Data) → SoundPlace places.ExtraMembers (array es) → get_item i es ≡ Some d → Leads places.Entry d path t w → IsFine done t w
   extras_along path i es d t w h there leads =
-      let one = item_sound al places.ExtraMembers 0 no_members es i d h.sound.inner there in
-      extra_along path d t w one.marks (subst (λ s. PartSound al s false one.marks d) extra_items one.sound) (item_in_order es i d h.in_order there) (item_place 0 no_members es i d (list_places al done es h.places.inner) there) leads
+      extra_along path d t w (item_in_order es i d h.in_order there) (item_place 0 no_members es i d (list_places al done es (joined_empty _ _ h.places).1) there) leads
 
   -- each field type that a path leads to fits
   place_along : (path : List Step) (s : Place) (v : Data) (t : Place) (w : Data) → IsOutside s → SoundPlace s v → Leads s v path t w → IsFine done t w
   place_along [] s v t w out h (place, value) = elim (cases_Bool (names_alias s)) [
     | inl is ↦ type_along [] s v t w h is (place, value)
-    | inr no_type ↦ subst (λ x. IsFine done x w) place (subst (IsFine done s) value ((λ names. absurd (unnamed_outside s out no_type names)), extras_fine al done s v h.places.own))
+    | inr no_type ↦ subst (λ x. IsFine done x w) place (subst (IsFine done s) value ((λ names. absurd (unnamed_outside s out no_type names)), extras_fine al done s v (joined_empty _ _ h.places).0))
   ]
   place_along (key k ∷ path) s v t w out h (ms, d, is, there, leads) = elim (cases_Bool (names_alias s)) [
     | inl named ↦ type_along (key k ∷ path) s v t w h named (ms, d, is, there, leads)
     | inr no_type ↦ elim (on_or_ignored s k out no_type) [
-      | inl on ↦ place_along path (place_under s k) d t w (under_outside s k out on) (sound_under s ms k d (subst (SoundPlace s) is h) on there) leads
+      | inl on ↦ place_along path (place_under s k) d t w (under_outside s k out on) (place_under_sound s ms k d (subst (SoundPlace s) is h) on there) leads
       | inr ignored ↦ ignored_fine done (place_under s k) path d t w ignored leads
     ]
   ]
@@ -293,7 +276,7 @@ module _ (al done : Members) (known : AreResolved al done) (all : (n : List ℕ)
   ]
 
   -- nothing is wrong with a configuration as a whole, nor at its places
-  pub all_fine : (v : Data) (path : List Step) (t : Place) (w : Data) → PartSound al places.Root false no_members v → Ascends v → inner_places al done places.Root v ≡ [] → Leads places.Root v path t w → IsFine done t w
+  pub all_fine : (v : Data) (path : List Step) (t : Place) (w : Data) → SoundAt al places.Root v → Ascends v → inner_places al done places.Root v ≡ [] → Leads places.Root v path t w → IsFine done t w
   unfolding leads_on
-  all_fine v path t w part ordered none leads =
-      place_along path places.Root v t w refl (record { taken = false; seen = no_members; sound = part; in_order = ordered; places = root_place al done v none }) leads
+  all_fine v path t w at ordered none leads =
+      place_along path places.Root v t w refl (record { sound = at; in_order = ordered; places = root_place al done v none }) leads

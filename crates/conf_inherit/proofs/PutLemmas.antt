@@ -1,8 +1,9 @@
 -- The resolved aliases, put into what the rest of a configuration is laid to.
-use Rattle.std.proofs.Common.{inr, inl, ◌≡◌, ℕ, suc, List, ◌++◌, map, None, Ok, true, false, true≢false, bytes_eq, refl, sym, ap, ◌∙◌, subst}
-use Rattle.std.proofs.{lemmas.Bool.cases_Bool, lemmas.Slice.Eq.bytes_eq-Decides}
+use Rattle.std.proofs.Common.{inr, inl, ◌≡◌, ◌⊎◌, Result, Err, ℕ, suc, List, ◌++◌, map, None, Ok, true, false, true≢false, bytes_eq, refl, sym, ap, ◌∙◌, subst}
+use Rattle.std.proofs.{lemmas.Bool.cases_Bool, lemmas.Slice.Eq.bytes_eq-Decides, lemmas.Result.err_from_is_err_and}
+use Rattle.std.specs.Result.{IsErrAnd}
 use Rattle.serde_json.specs.Data.{Data, string, array, object, Members, no_members, member, put}
-use Rattle.conf_tree.specs.{Flaw.{key, within}, Reading.◌>>=◌, Walk.refusal}
+use Rattle.conf_tree.specs.{declared.fault.ConfFault.ConfFault, Flaw.{Flaw, key, within, flaw_of, IsMemory}, Reading.{◌>>=◌, Gives}, Walk.refusal}
 use Rattle.conf_table.specs.declared.place.Place.{Place}
 use Rattle.conf_table.specs.declared.place.Place.TheVariants as places
 use Rattle.conf_inherit.specs.{FieldPlaces.{place_under, names_alias, names_member_type, lists_members, leads_on}, Laying.{lay, lay_members, lay_text}}
@@ -20,7 +21,7 @@ put_here n k g x (member l e ms) at =
     elim (stands k l) [
       | inl is ↦ rw (is, at) refl
       | inr (inl is) ↦ (let mine : bytes_eq l n ≡ true = (bytes_eq-Decides l n).1 (sym (equal_names k l is) ∙ same) in rw (is, mine) refl)
-      | inr (inr is) ↦ (let away : bytes_eq l n ≡ false = differs l n (λ e. apart_greater k l is (same ∙ sym e)) (bytes_eq l n) refl in rw (is, away) (ap (member l e) (put_here n k g x ms at)))
+      | inr (inr is) ↦ (let away : bytes_eq l n ≡ false = differs l n (λ e. apart_greater k l is (same ∙ sym e)) in rw (is, away) (ap (member l e) (put_here n k g x ms at)))
     ]
 
 put_beside : (n k : List ℕ) (g : Data → Data) (x : Data) (ms : Members) → bytes_eq k n ≡ false → with_property n g (put k x ms) ≡ put k x (with_property n g ms)
@@ -81,11 +82,11 @@ whole_with done al v = on_way (λ s f g. (d : Data) → lay done s (f d) None �
     (object_with done places.FieldTypeAliases refl al) (λ s n f g above each. value_with done s above n f g each) v
 
 -- the resolved ones in their place
-pub laid_with : (done al : Members) (v : Data) → AreLaid done al → lay done places.Root (with_aliases al v) None ≡ with_aliases done (lay done places.Root v None)
+laid_with : (done al : Members) (v : Data) → AreLaid done al → lay done places.Root (with_aliases al v) None ≡ with_aliases done (lay done places.Root v None)
 laid_with done al v laid = whole_with done al v ∙ ap (λ ms. with_aliases ms (lay done places.Root v None)) (sym laid)
 
 -- without aliases it is laid to what has none
-pub laid_bare : (done : Members) (v : Data) → with_aliases no_members v ≡ v → with_aliases no_members (lay done places.Root v None) ≡ lay done places.Root v None
+laid_bare : (done : Members) (v : Data) → with_aliases no_members v ≡ v → with_aliases no_members (lay done places.Root v None) ≡ lay done places.Root v None
 laid_bare done v bare = sym (whole_with done no_members v) ∙ ap (λ d. lay done places.Root d None) bare
 
 -- ---- what is too deep
@@ -113,7 +114,19 @@ shallow_put done v shallow =
     theirs (object ms) = nests_shallow (object done) 29 shallow
     theirs _ = refl
 
+-- what is asked is the resolved aliases in what the rest was laid to
+pub asked : (done al : Members) (v laid : Data) → laid ≡ lay done places.Root v None → AreLaid done al → if_shallow (lay done places.Root (with_aliases al v) None) ≡ if_shallow (with_aliases done laid)
+asked done al v laid is are_laid = ap if_shallow (laid_with done al v are_laid ∙ ap (with_aliases done) (sym is))
+
 -- where shallow aliases are put, what is too deep is so without them
-pub shallow_answer : (done : Members) (v : Data) → members_nest done 28 ≡ true → with_aliases no_members v ≡ v
-    → if_shallow (with_aliases done v) ≡ (refusal (deep_flaws v 32) >>= (λ a. Ok (with_aliases done v)))
-shallow_answer done v shallow bare = ap (λ fs. refusal fs >>= (λ a. Ok (with_aliases done v))) (shallow_put done v shallow ∙ ap (λ d. deep_flaws d 32) bare)
+pub shallow_asked : (done al : Members) (v laid : Data) → laid ≡ lay done places.Root v None → AreLaid done al → members_nest done 28 ≡ true → with_aliases no_members v ≡ v
+    → if_shallow (lay done places.Root (with_aliases al v) None) ≡ (refusal (deep_flaws laid 32) >>= (λ a. Ok (with_aliases done laid)))
+shallow_asked done al v laid is are_laid shallow bare =
+    let none = ap (with_aliases no_members) is ∙ laid_bare done v bare ∙ sym is in
+    asked done al v laid is are_laid ∙ ap (λ fs. refusal fs >>= (λ a. Ok (with_aliases done laid))) (shallow_put done laid shallow ∙ ap (λ d. deep_flaws d 32) none)
+
+-- what a part refuses, the whole does
+pub refuses : {A B C : Type 0} (seen : A → B) (r : Result A ConfFault) (fault : ConfFault) (read : Result C Flaw) (next : C → Result B Flaw) (whole : Result B Flaw) → IsErrAnd r (λ y. y ≡ fault) → whole ≡ (read >>= next) → IsMemory fault ⊎ (read ≡ Err (flaw_of fault)) → Gives seen r whole
+refuses seen r fault read next whole returned same h =
+    let p = err_from_is_err_and r returned in
+    rw (p.1, p.2) (elim h [ inl memory ↦ inl memory | inr flawed ↦ inr (same ∙ ap (λ x. x >>= next) flawed) ])

@@ -1,25 +1,25 @@
 -- The kind of a refusal holds at its path.
-use Rattle.std.proofs.Common.{◌≡◌, ◌<◌, ◌⊎◌, inl, inr, ℕ, suc, List, [], ◌∷◌, Option, Some, None, option_and_then, Result, Ok, Err, is_some, nat_lt, Bool, true, false, refl, sym, ap, ◌∙◌, subst, ◌&&◌}
-use Rattle.std.proofs.lemmas.Bool.{cases_Bool, true≢false, and_from}
+use Rattle.std.proofs.Common.{◌≡◌, ◌⊎◌, inl, inr, ℕ, suc, List, [], ◌∷◌, Option, Some, None, option_and_then, Result, Ok, Err, is_some, nat_lt, Bool, true, false, refl, sym, ap, ◌∙◌, subst}
+use Rattle.std.proofs.lemmas.Bool.{cases_Bool, true≢false}
 use Rattle.std.specs.Prelude.{⊤}
 use Rattle.serde_json.specs.{Data.{Data, array, object, Items, no_items, item, Members, no_members, member}, Events.{items_len, members_len}}
 use Rattle.serde_json.specs.Find.{get, get_member}
 use Rattle.conf_tree.specs.{Flaw.{Flaw, key, index, here, within, Place as Step}, Reading.◌>>=◌, Walk.{HasMember, refusal, IsTreeOf}}
 use Rattle.conf_tree.specs.{declared.fault_kind.FaultKind.FaultKind, declared.fault_kind.FaultKind.TheVariants.{InheritCycle, Limit, WrongKind, NoSuchAlias}}
 use Rattle.conf_table.specs.{declared.place.Place.Place, Table.{content_under, entries_of, rows_of, place_in}}
-use Rattle.conf_inherit.specs.FieldPlaces.{field_place, place_under, place_of_items, names_alias, names_member_type, lists_extra_members, leads_on, lists_members, is_entry}
+use Rattle.conf_inherit.specs.FieldPlaces.{field_place, place_under, place_of_items, names_alias, names_member_type, lists_extra_members, leads_on}
 use Rattle.conf_inherit.specs.{AliasFlaws.{first_or_circle, alias_flaws, all_alias_flaws}, Flaws.{type_flaws, mark}, Looks.{AreResolved, Looks}, Names.NoClash}
 use Rattle.conf_inherit.specs.{Circle.Walks, SameFlaw.is_same_flaw, Ready.Names, Named.{all_named, has}, Rounds.Outcomes, Laying.lay}
-use Rattle.conf_inherit.specs.{Faults.{Passes, FlawHolds, RefusalHolds, Leads, HasEntry, Clashes, ListsTooMany, Tells}, Limits.{Exceeds, limit_flaws}}
+use Rattle.conf_inherit.specs.{Faults.{Passes, FlawHolds, RefusalHolds, Leads, ListsTooMany, Tells}, Limits.{Exceeds, limit_flaws}}
 use Rattle.conf_inherit.specs.{Places.{too_many, place_flaws, inner_places, item_places, member_places, max_extra_members}, Nesting.{deep_flaws, PassesDepth}}
 use Rattle.conf_inherit.specs.Resolution.{members_or_none, trace_name, type_name, aliases_name, aliases_of, in_aliases, from_aliases, if_shallow, resolution, Resolves}
 use Rattle.conf_inherit.proofs.SizeLemmas.{deep_told, depth_excluded}
-use Rattle.conf_inherit.proofs.SoundPlaces.{place_of_type, place_of_member, place_of_list, place_of_other, flawless, PartSound, part_sound, member_sound, item_sound, SoundAt, sound_along}
+use Rattle.conf_inherit.proofs.SoundPlaces.{place_of_type, place_of_member, place_of_list, place_of_other, flawless, SoundAt, sound_along}
 use Rattle.conf_inherit.proofs.RoundLemmas.{rounds_of, TreeSound, tree_sound, laid_resolves, resolution_sound, no_flaws, circle_refused, rounds_resolved, rounds_reached, all_done}
-use Rattle.conf_inherit.proofs.{LimitLemmas.{limits_told, bases_told, apart_fits}, LookedUp.{one_look, both_there, read_in_order, aliases_apart}, LaysOver.lays}
-use Rattle.conf_inherit.proofs.{FieldPlaceLemmas.{trace_place, trace_type_place, aliases_place, alias_field, list_place}, TurnLemmas.{IsOpen, rounds_open}}
-use Rattle.conf_inherit.proofs.FaultLemmas.{own_sound, Each, no_flaw, a_flaw, joined, each_along, part, first_told, IsTold, holds_told, holds_in_object, holds_in_list, entry_told, inner_told, of_itself, flaws_told, Aligned, aligned_all, aligned_here, aligned_next, Seen, seen_next_at, none_seen, ready}
-use Rattle.conf_inherit.proofs.{LayingLemmas.{has_found, AllEntries, found_each}, PlacesFit.{IsFine, sound_named, all_fine}}
+use Rattle.conf_inherit.proofs.{LimitLemmas.{limits_told, bases_told, apart_fits}, LookedUp.{no_twice, one_look, both_there, read_in_order, aliases_apart}, LaysOver.lays}
+use Rattle.conf_inherit.proofs.{FieldPlaceLemmas.{trace_place, trace_type_place, aliases_place, alias_field}, TurnLemmas.{IsOpen, rounds_open}}
+use Rattle.conf_inherit.proofs.FaultLemmas.{joined_empty, own_sound, Each, no_flaw, a_flaw, joined, each_along, part, first_told, IsTold, holds_told, holds_in_object, holds_in_list, entry_told, inner_told, of_itself, flaws_told, Aligned, aligned_all, aligned_here, aligned_next, Seen, seen_next_at, none_seen, ready}
+use Rattle.conf_inherit.proofs.{LayingLemmas.{has_found, AllEntries, found_each}, PlacesFit.{IsFine, sound_named, sound_ready, all_fine}}
 use borrow.Author.Tests.{ltb-true}
 use Rattle.conf_table.specs.declared.place.Place.TheVariants as places
 
@@ -138,11 +138,8 @@ err_then : (a : Result ⊤ Flaw) (k : ⊤ → Result Data Flaw) (f : Flaw) → (
 err_then (Ok x) k f h = inr (refl, h)
 err_then (Err g) k f h = inl (let e : g ≡ f = cc in ap (λ x. Err x) e)
 
-no_err : (x : Data) (f : Flaw) → (let o : Result Data Flaw = Ok x in o ≡ Err f) → ⊥
-no_err x f h = cc
-
 err_shallow : (x : Data) (f : Flaw) → if_shallow x ≡ Err f → PassesDepth 32 x f
-err_shallow x f h = elim (err_then (refusal (deep_flaws x 32)) (λ a. Ok x) f h) [ inl e ↦ first_told f (deep_told x 32) e | inr e ↦ absurd (no_err x f e.1) ]
+err_shallow x f h = elim (err_then (refusal (deep_flaws x 32)) (λ a. Ok x) f h) [ inl e ↦ first_told f (deep_told x 32) e | inr e ↦ absurd (let o : Result Data Flaw = Ok x in let bad : o ≡ Err f = e.1 in cc) ]
 
 module _ (t : Data) (f : Flaw) (apart : NoClash (aliases_of t)) where
   alias_refused : (g : Flaw) → refusal (all_alias_flaws (aliases_of t) (rounds_of t) (aliases_of t)) ≡ Err g → FlawHolds (aliases_of t) places.Root t (in_aliases g)
@@ -175,26 +172,11 @@ resolved_or_refused t apart = go (resolution t) refl
 
 -- ---- a tree that was read and has a resolution has no fault of inheritance
 
-module _ (al : Members) where
-  -- no entry of a members list has the name of one before it
-  no_clash : (s : Place) (es : Items) (taken : Bool) (seen : Members) (i j : ℕ) (n : List ℕ) → PartSound al s taken seen (array es) → lists_members s ≡ true → i < j → HasEntry i n es → HasEntry j n es → ⊥
-  unfolding is_entry
-  no_clash s es taken seen i j n h lists before first (ms, d, there, has_it) =
-      let one = item_sound al s 0 no_members es j (object ms) h.inner there in
-      let mine = member_sound al (place_of_items s) one.marks ms n d one.sound.inner has_it in
-      let free = (own_sound al (place_under (place_of_items s) n) (is_entry (place_of_items s) && is_some (get_member n one.marks)) d mine.own).free in
-      true≢false (sym (and_from (is_entry (place_of_items s)) (is_some (get_member n one.marks)) (ap is_entry (list_place s lists)) (one.marked n i before first)) ∙ free)
-
-  clash_excluded : (s : Place) (v : Data) (path : List Step) (taken : Bool) (seen : Members) → PartSound al s taken seen v → ¬ Clashes s v path
-  clash_excluded s v path taken seen h (front, t, es, i, j, n, is, leads, lists, before, first, second) =
-      let at = sound_along al front s v t (array es) taken seen h leads in
-      no_clash t es at.taken at.seen i j n at.sound lists before first second
-
 -- ---- all of a tree that has a resolution
 
 told_excluded : (aliases : Members) (kind : FaultKind) (s : Place) (w : Data) → SoundAt aliases s w → ¬ ListsTooMany s w → ¬ Tells aliases kind s w
-told_excluded aliases WrongKind s w h few told = true≢false (sym told ∙ (own_sound aliases s h.taken w h.sound.own).right)
-told_excluded aliases NoSuchAlias s w h few told = true≢false (sym told ∙ (own_sound aliases s h.taken w h.sound.own).known)
+told_excluded aliases WrongKind s w h few told = true≢false (sym told ∙ (own_sound aliases s h.taken w (joined_empty _ _ h.sound).0).right)
+told_excluded aliases NoSuchAlias s w h few told = true≢false (sym told ∙ (own_sound aliases s h.taken w (joined_empty _ _ h.sound).0).known)
 told_excluded aliases Limit s w h few told = few told
 told_excluded aliases _ s w h few told = absurd told
 
@@ -208,8 +190,8 @@ module _ (text : List ℕ) (t r : Data) (tree : IsTreeOf text t) (h : resolution
   abbrev done : Members
   done = (rounds_of t).done
 
-  root_sound : PartSound (aliases_of t) places.Root false no_members t
-  root_sound = part_sound (aliases_of t) places.Root false no_members t (flawless (aliases_of t) done t sound.at_places)
+  root_sound : SoundAt (aliases_of t) places.Root t
+  root_sound = record { taken = false; seen = no_members; sound = flawless (aliases_of t) done t sound.at_places }
 
   known : AreResolved (aliases_of t) done
   known = rounds_resolved (aliases_of t) (members_len (aliases_of t)) (found_each (aliases_of t) apart)
@@ -219,24 +201,25 @@ module _ (text : List ℕ) (t r : Data) (tree : IsTreeOf text t) (h : resolution
 
   -- what a value is laid to is what it is looked up as, under whatever resolved aliases
   laid : (others : Members) (s : Place) (w : Data) → AreResolved (aliases_of t) others → SoundAt (aliases_of t) s w → all_named (has others) s w ≡ true → Looks (aliases_of t) s (w ∷ []) (lay others s w None)
-  laid others s w resolved at named = lays (aliases_of t) others resolved w s (ready (aliases_of t) None others w s at.seen at.sound.inner named) [] None refl
+  laid others s w resolved at named = lays (aliases_of t) others resolved w s (ready (aliases_of t) None others w s at.taken at.seen at.sound named) [] None refl
 
   fine : (path : List Step) (s : Place) (w : Data) → Leads places.Root t path s w → IsFine done s w
   fine path s w leads = all_fine (aliases_of t) done known all_known t path s w root_sound (read_in_order text t tree.0.1) sound.at_places leads
 
   passes_excluded : (kind : FaultKind) (path : List Step) (s : Place) (w : Data) → Leads places.Root t path s w → ¬ Passes (aliases_of t) kind s w
   passes_excluded kind path s w leads (names, (others, resolved, named, past)) =
-      let at = sound_along (aliases_of t) path places.Root t s w false no_members root_sound leads in
-      let mine = laid done s w known at (sound_named (aliases_of t) done known all_known s w at.taken at.seen at.sound) in
+      let at = sound_along (aliases_of t) path places.Root t s w root_sound leads in
+      let mine = laid done s w known at (sound_named (aliases_of t) done known all_known s w at) in
       let same = one_look (aliases_of t) (laid others s w resolved at named) mine in
       apart_fits kind (lay done s w None) ((fine path s w leads).0 names) (subst (Exceeds kind) same past)
 
   flaw_excluded : (flaw : Flaw) → ¬ FlawHolds (aliases_of t) places.Root t flaw
   flaw_excluded flaw (inl (s, w, leads, inl told)) =
-      let at = sound_along (aliases_of t) flaw.path places.Root t s w false no_members root_sound leads in
+      let at = sound_along (aliases_of t) flaw.path places.Root t s w root_sound leads in
       told_excluded (aliases_of t) flaw.kind s w at (fine flaw.path s w leads).1 told
   flaw_excluded flaw (inl (s, w, leads, inr past)) = passes_excluded flaw.kind flaw.path s w leads past
-  flaw_excluded flaw (inr (inl (kind, clash))) = clash_excluded (aliases_of t) places.Root t flaw.path false no_members root_sound clash
+  flaw_excluded flaw (inr (inl (kind, (front, s, es, i, j, n, is, leads, lists, before, first, second)))) =
+      no_twice es i j n ((sound_ready (aliases_of t) done known all_known s (array es) (sound_along (aliases_of t) front places.Root t s (array es) root_sound leads)).0 lists) before first second
   flaw_excluded flaw (inr (inr (kind, (front, k, is, leads, walks)))) = circle_refused t r k apart walks h
 
   -- no fault of inheritance holds of it

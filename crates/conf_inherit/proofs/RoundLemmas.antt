@@ -1,18 +1,18 @@
 -- What the rounds over the aliases leave: resolved aliases are what they are looked up as, and an alias with no
 -- outcome starts a walk as long as there were rounds.
-use Rattle.std.proofs.Common.{◌≡◌, ◌&&◌, ◌||◌, ◌++◌, inl, inr, ℕ, zero, suc, List, [], ◌∷◌, Option, Some, None, Result, Ok, Err, is_some, Bool, true, false, not, true≢false, refl, sym, ap, ◌∙◌, subst, ◌+◌, ◌≤◌, String, Global, Less, string_cmp, string_bytes, arith, ◌<◌, if◌then◌else◌}
+use Rattle.std.proofs.Common.{◌≡◌, ◌&&◌, ◌||◌, inl, inr, ℕ, zero, suc, List, [], ◌∷◌, Option, Some, None, Result, Ok, Err, is_some, Bool, true, false, not, true≢false, refl, sym, ap, ◌∙◌, subst, ◌+◌, ◌≤◌, arith, ◌<◌, if◌then◌else◌}
 use Rattle.std.proofs.lemmas.Bool.{and_parts, cases_Bool, or_parts, or_left, or_right}
-use Rattle.std.specs.{Prelude.⊤, List.AllByRecursion, List.Sorted.IsStrictlySortedBy, Map.keys_of}
-use Rattle.serde_json.specs.{Data.{Data, null, Members, no_members, member, put}, Find.get_member, View.members_view, Events.members_len}
-use Rattle.serde_json.proofs.Views.{get_member-put_other, Entry}
+use Rattle.std.specs.Prelude.{⊤}
+use Rattle.serde_json.specs.{Data.{Data, null, Members, no_members, member, put}, Find.get_member, Events.members_len}
+use Rattle.serde_json.proofs.Views.{get_member-put_other}
 use Rattle.conf_tree.specs.{Flaw.{Flaw, key, within}, Walk.refusal, declared.fault_kind.FaultKind.FaultKind, Reading.◌>>=◌}
-use Rattle.conf_inherit.specs.{AliasFlaws.{over_names, first_or_circle, alias_flaws, all_alias_flaws}, Flaws.{flaws, own_flaws, inner_flaws, type_flaws}}
+use Rattle.conf_inherit.specs.{AliasFlaws.{over_names, first_or_circle, alias_flaws, all_alias_flaws}, Flaws.{flaws, type_flaws}}
 use Rattle.conf_inherit.specs.{Laying.lay, Named.{all_named, has}, SameFlaw.is_same_flaw, Circle.{Mentions, Walks}}
-use Rattle.conf_inherit.specs.{Limits.{fitting, passed, limit_flaws}, Looks.{Looks, AreResolved}, Names.{AllAbove, NoClash}, Nesting.{nests, deep_flaws}}
+use Rattle.conf_inherit.specs.{Limits.{fitting, passed, limit_flaws}, Looks.{Looks, AreResolved}, Names.NoClash, Nesting.{nests, deep_flaws}}
 use Rattle.conf_inherit.specs.Rounds.{Outcomes, has_outcome, is_over, is_empty, if_fitting, outcome, concluded, step, round, all_over, rounds, no_outcomes, Reached, at_first, turned}
 use Rattle.conf_inherit.specs.{Resolution.{aliases_of, Resolves, from_aliases, if_shallow, resolution_after, resolution_under, resolution}, Places.inner_places}
 use Rattle.conf_inherit.proofs.{LimitLemmas.{kept_flaws, fitting_value}, SizeLemmas.shallow_nests, SoundPlaces.flawless}
-use Rattle.conf_inherit.proofs.LayingLemmas.{some_is_none, Meets, same, other, meets, put_found, AllEntries, entry_found, get_none, found_each, get_other}
+use Rattle.conf_inherit.proofs.LayingLemmas.{some_is_none, Meets, same, other, meets, put_found, AllEntries, entry_found, found_each, get_other}
 use Rattle.conf_inherit.proofs.{LaysOver.lays, FaultLemmas.{named, named_along, blocked, mentioned, is_still, is_put, ready, part_empty, joined_empty, some_of}}
 use Rattle.conf_table.specs.declared.place.Place.TheVariants as places
 
@@ -78,7 +78,7 @@ module _ (al : Members) where
   outcome_looks done w r known h =
       let is = outcome_is al done w r h in
       subst (Looks al places.FieldType (w ∷ [])) (fitting_value (lay done places.FieldType w None) r is.fits)
-      (lays al done known w places.FieldType (ready al (Some done) done w places.FieldType no_members (joined_empty (own_flaws al places.FieldType false w) (inner_flaws al (Some done) places.FieldType no_members w) is.flawless).1 is.named) [] None refl)
+      (lays al done known w places.FieldType (ready al (Some done) done w places.FieldType false no_members is.flawless is.named) [] None refl)
 
   resolved_more : (done : Members) (k : List ℕ) (w r : Data) → AreResolved al done → get_member k al ≡ Some w → Looks al places.FieldType (w ∷ []) r → AreResolved al (put k r done)
   resolved_more done k w r known is l n t h = elim (meets n k) [
@@ -121,7 +121,7 @@ Agrees st next = (n : List ℕ) → has_outcome st n ≡ true → SameAt st next
 pub concluded_agrees : (k : List ℕ) (st : Outcomes) (o : Option Data) → has_outcome st k ≡ false → Agrees st (concluded k st o)
 concluded_agrees k st o free n h = concluded_other k st o n (λ e. true≢false (sym h ∙ ap (has_outcome st) e ∙ free))
 
-agrees_through : (a b c : Outcomes) → Agrees a b → Agrees b c → Agrees a c
+pub agrees_through : (a b c : Outcomes) → Agrees a b → Agrees b c → Agrees a c
 agrees_through a b c f g n h = let one = f n h in let two = g n (same_outcome a b n one ∙ h) in (two.0 ∙ one.0, two.1 ∙ one.1)
 
 limit_listed : (o : Result Data FaultKind) → if_fitting o ≡ None → passed o ≡ [] → ⊥
@@ -155,11 +155,7 @@ module _ (al : Members) (last : Outcomes) (sound : all_alias_flaws al last al �
 
   -- a type without a flaw names aliases alone
   sound_names : (w : Data) → type_flaws al last.done places.FieldType w ≡ [] → all_named (has al) places.FieldType w ≡ true
-  sound_names w none =
-      let own = own_flaws al places.FieldType false w in
-      let inner = inner_flaws al (Some last.done) places.FieldType no_members w in
-      let all = (joined_empty (own ++ inner) (limit_flaws last.done places.FieldType w) none).0 in
-      named al (Some last.done) (has al) (λ n x. x) w places.FieldType false no_members (joined_empty own inner all).0 (joined_empty own inner all).1
+  sound_names w none = named al (Some last.done) (has al) (λ n x. x) w places.FieldType false no_members (joined_empty _ _ none).0
 
   -- no alias is refused in a state that leads to the last one
   abbrev NoneRefused : Outcomes → Type 0
@@ -212,22 +208,9 @@ laid_resolves t al n st is apart went sound whole =
     let each = found_each al apart in
     let known : AreResolved al st.done = subst (λ x. AreResolved al x.done) (sym went) (rounds_resolved al n each) in
     let none = flawless al st.done t whole in
-    let own = (joined_empty (own_flaws al places.Root false t) (inner_flaws al None places.Root no_members t) none).0 in
-    let inner = (joined_empty (own_flaws al places.Root false t) (inner_flaws al None places.Root no_members t) none).1 in
     let all = all_done al st sound (subst (Reached al) (sym went) (rounds_reached al n each)) in
     subst (λ x. Looks x places.Root (t ∷ []) (lay st.done places.Root t None)) is
-    (lays al st.done known t places.Root (ready al None st.done t places.Root no_members inner (named al None (has st.done) all t places.Root false no_members own inner)) [] None refl)
-
--- ---- the names of a map are in order
-
-pub above_of : (k : String Global) (es : List Entry) → AllByRecursion (λ y. string_cmp k y ≡ Less) (keys_of es) → AllAbove (string_bytes k) (members_view es)
-above_of k [] h = tt
-above_of k (e ∷ es) h = (h.0, above_of k es h.1)
-
-pub apart_of : (es : List Entry) → IsStrictlySortedBy string_cmp (keys_of es) → NoClash (members_view es)
-unfolding IsStrictlySortedBy
-apart_of [] h = tt
-apart_of (e ∷ es) h = (get_none (string_bytes e.0) (members_view es) (above_of e.0 es h.0), apart_of es h.1)
+    (lays al st.done known t places.Root (ready al None st.done t places.Root false no_members none (named al None (has st.done) all t places.Root false no_members none)) [] None refl)
 
 -- ---- the answer
 

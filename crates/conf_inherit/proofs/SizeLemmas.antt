@@ -1,15 +1,15 @@
 -- Counting: the parts of a whole, and what a limit leaves.
-use Rattle.std.proofs.Common.{inr, inl, ◌≡◌, ◌+◌, ◌<◌, ◌≤◌, ◌++◌, ℕ, List, [], ◌∷◌, length, drop, get_or, Option, Some, None, Bool, true, false, string_bytes, refl, sym, ap, ◌∙◌, subst, arith, ◌&&◌, zero, suc, true≢false, max, ◌↔◌}
-use Rattle.std.proofs.{lemmas.Bool.{and_from, and_parts, cases_Bool}, lemmas.List.at_drop_more}
+use Rattle.std.proofs.Common.{inr, inl, ◌≡◌, ◌+◌, ◌<◌, ◌≤◌, ◌++◌, ℕ, List, [], ◌∷◌, length, Option, Some, None, Bool, true, false, string_bytes, refl, sym, ap, ◌∙◌, subst, arith, ◌&&◌, zero, suc, true≢false, max, ◌↔◌}
+use Rattle.std.proofs.lemmas.{Bool.{and_from, and_parts}, Option.same_Some}
 use Rattle.serde_json.specs.Data.{Data, array, object, Items, no_items, item, Members, no_members, member, put, depth, items_depth, members_depth}
 use Rattle.serde_json.specs.{Find.{get_member, get_item}, View.{view, items_view, members_view}, declared.value.Value.Value}
 use Rattle.serde_json.proofs.Views.{Entry}
 use Rattle.conf_inherit.specs.{declared.size.Stop.Stop, Nesting.{nests, items_nest, members_nest, deep_flaws, deep_item_flaws, deep_member_flaws, PassesDepth}}
 use Rattle.conf_inherit.specs.{declared.size.Stop.TheVariants.{Memory, Limit}, Names.{NoClash, join_items, map_items, IsInOrder}}
 use Rattle.conf_inherit.specs.{FieldPlaces.{place_under, is_base_name, lists_members}, Size.{size, items_size, members_size, Within, Leaves, IsDue}}
-use Rattle.conf_inherit.specs.{Laying.{lay, has_entry, items_below, lay_members, lay_over, lay_new, lay_new_entry, lay_new_member}, Limits.Fits}
+use Rattle.conf_inherit.specs.{Laying.{lay, items_below, lay_members, lay_over, lay_new}, Limits.Fits}
 use Rattle.conf_table.specs.declared.place.Place.{Place}
-use Rattle.conf_inherit.proofs.LayingLemmas.{AllEntries, found_each, same, other, meets, get_other, get_same, lay_members-found, get_first, get_none, equal_names, above_turned, above_through, some_is_none, value_same, stands, put_keeps}
+use Rattle.conf_inherit.proofs.LayingLemmas.{join_appended, same, other, meets, get_other, get_same, lay_members-found, lay_members-absent, lay_members-first, get_first, get_none, equal_names, above_turned, above_through, some_is_none, stands, put_keeps}
 use Rattle.conf_inherit.proofs.FaultLemmas.{Each, no_flaw, a_flaw, joined, each_along, part, Aligned, aligned_all, aligned_here, aligned_next, part_empty}
 use Rattle.conf_tree.specs.{Flaw.{Flaw, Place as Step, key, index, within}, Walk.{HasMember, LeadsTo, IsNested}}
 
@@ -40,27 +40,21 @@ pub leaves_within : (limit left : Option ℕ) (n : ℕ) → Leaves limit n left 
 leaves_within None left n h = tt
 leaves_within (Some room) left n (rest, is, sum) = omega arith
 
--- the room is what a limit leaves, where a whole has so many values and so many of them are still to come
-pub record IsCounted (limit room : Option ℕ) (whole rest : ℕ) : Type 0 where
-  pub taken : ℕ
-  pub left : Leaves limit taken room
-  pub sum : whole ≡ taken + rest
-
-pub counted_none : (limit : Option ℕ) (n : ℕ) → IsCounted limit limit n n
-counted_none limit n = record { taken = 0; left = leaves_all limit; sum = omega arith }
-
--- some of what is to come is counted
-pub counted_more : (limit room left : Option ℕ) (whole rest n later : ℕ) → IsCounted limit room whole rest → rest ≡ n + later → Leaves room n left → IsCounted limit left whole later
-counted_more limit room left whole rest n later c split leaves = record { taken = c.taken + n; left = leaves_more limit room left c.taken n c.left leaves; sum = omega (arith, c.sum, split) }
-
--- what is past the room is past the limit
-pub counted_past : (stop : Stop) (limit room : Option ℕ) (whole rest n later : ℕ) → IsCounted limit room whole rest → rest ≡ n + later → IsDue stop room n → IsDue stop limit whole
-counted_past stop limit room whole rest n later c split due = due_after stop limit room c.taken n whole (omega (arith, c.sum, split)) c.left due
-
-pub counted_all : (limit room : Option ℕ) (whole : ℕ) → IsCounted limit room whole 0 → Leaves limit whole room
-counted_all limit room whole c = let same : c.taken ≡ whole = omega (arith, c.sum) in subst (λ n. Leaves limit n room) same c.left
-
 -- ---- the parts of a whole
+
+pub joined_size : (a b : Items) → items_size (join_items a b) ≡ items_size a + items_size b
+joined_size no_items b = omega arith
+joined_size (item d ds) b = let rest : items_size (join_items ds b) ≡ items_size ds + items_size b = joined_size ds b in omega arith
+
+-- one entry more is counted
+pub leaves_pushed : (limit room after : Option ℕ) (vs : List Value) (v : Value) → Leaves limit (items_size (items_view vs)) room → Leaves room (size (view v)) after → Leaves limit (items_size (items_view (vs ++ v ∷ []))) after
+leaves_pushed limit room after vs v so_far next =
+    let sum : items_size (items_view vs) + size (view v) ≡ items_size (items_view (vs ++ v ∷ [])) = omega (arith, ap items_size (join_appended vs (v ∷ [])), joined_size (items_view vs) (item (view v) no_items)) in
+    subst (λ n. Leaves limit n after) sum (leaves_more limit room after _ _ so_far next)
+
+-- what is past the room that the entries so far leave is past the limit
+pub due_next : (stop : Stop) (limit room : Option ℕ) (ds : Items) (d : Data) (rest whole : Items) → join_items ds (item d rest) ≡ whole → Leaves limit (items_size ds) room → IsDue stop room (size d) → IsDue stop limit (items_size whole)
+due_next stop limit room ds d rest whole is so_far due = due_after stop limit room (items_size ds) (size d) _ (omega (arith, joined_size ds (item d rest), ap items_size is)) so_far due
 
 -- no more values, and no deeper
 pub record NoMore (m n a b : ℕ) : Type 0 where
@@ -71,36 +65,36 @@ pub record NoMore (m n a b : ℕ) : Type 0 where
 member_within : (k : List ℕ) (e : Data) (ms : Members) → get_member k ms ≡ Some e → NoMore (size e) (members_size ms) (depth e) (members_depth ms)
 member_within k e no_members h = cc
 member_within k e (member l d ms) h = elim (meets k l) [
-  | same f ↦ subst (λ x. NoMore (size x) (members_size (member l d ms)) (depth x) (members_depth (member l d ms))) (value_same d e (sym (get_same k l d ms f) ∙ h)) record { few = omega arith; flat = omega arith }
+  | same f ↦ subst (λ x. NoMore (size x) (members_size (member l d ms)) (depth x) (members_depth (member l d ms))) (same_Some d e (sym (get_same k l d ms f) ∙ h)) record { few = omega arith; flat = omega arith }
   | other apart ↦ (let rest = member_within k e ms (sym (get_other k l d ms apart) ∙ h) in record { few = omega (arith, rest.few); flat = omega (arith, rest.flat) })
 ]
 
--- a property that is laid is a part of the laid object
-pub property_size : (done : Members) (s : Place) (k : List ℕ) (v : Data) (ms base : Members) → is_base_name s k ≡ false → get_member k ms ≡ Some v
-    → size (lay done (place_under s k) v (get_member k base)) ≤ members_size (lay_members done s ms base)
-property_size done s k v ms base b h = (member_within k (lay done (place_under s k) v (get_member k base)) (lay_members done s ms base) (lay_members-found done s k v ms base b h)).few
+-- an entry of a map is found by its name, and no later one is
+entry_alone : (front back : List Entry) (e : Entry) → NoClash (members_view (front ++ e ∷ back)) → (get_member (string_bytes e.0) (members_view (front ++ e ∷ back)) ≡ Some (view e.1)) × (get_member (string_bytes e.0) (members_view back) ≡ None)
+entry_alone [] back e h = (get_first (string_bytes e.0) (view e.1) (members_view back), h.0)
+entry_alone (x ∷ front) back e h =
+    let (found, none) = entry_alone front back e h.1 in
+    elim (meets (string_bytes e.0) (string_bytes x.0)) [
+      | same is ↦ absurd (some_is_none (view e.1) (sym found ∙ ap (λ k. get_member k (members_view (front ++ e ∷ back))) is ∙ h.0))
+      | other apart ↦ (get_other (string_bytes e.0) (string_bytes x.0) (view x.1) (members_view (front ++ e ∷ back)) apart ∙ found, none)
+    ]
 
-pick_entry : (P : List ℕ → Data → Type 0) (front : List Entry) (e : Entry) (back : List Entry) → AllEntries P (members_view (front ++ e ∷ back)) → P (string_bytes e.0) (view e.1)
-pick_entry P [] e back h = h.0
-pick_entry P (x ∷ front) e back h = pick_entry P front e back h.1
+-- a property goes over the base's, once all behind it do, and is a part of what is laid
+pub record IsNext (done : Members) (s : Place) (k : List ℕ) (d : Data) (laid next whole : Members) : Type 0 where
+  pub put : put k (lay done (place_under s k) d (get_member k laid)) laid ≡ next
+  pub part : size (lay done (place_under s k) d (get_member k laid)) ≤ members_size whole
 
--- a name of a map finds its entry
-pub found_among : (front : List Entry) (e : Entry) (back whole : List Entry) → whole ≡ front ++ e ∷ back → NoClash (members_view whole) → get_member (string_bytes e.0) (members_view whole) ≡ Some (view e.1)
-found_among front e back whole is apart =
-    let each = found_each (members_view whole) apart in
-    pick_entry (λ k d. get_member k (members_view whole) ≡ Some d) front e back (subst (λ es. AllEntries (λ k d. get_member k (members_view whole) ≡ Some d) (members_view es)) is each)
-
-pub joined_size : (a b : Items) → items_size (join_items a b) ≡ items_size a + items_size b
-joined_size no_items b = omega arith
-joined_size (item d ds) b = let rest : items_size (join_items ds b) ≡ items_size ds + items_size b = joined_size ds b in omega arith
-
--- no later entry has its name
-pub absent_after : (front : List Entry) (e : Entry) (back whole : List Entry) → whole ≡ front ++ e ∷ back → NoClash (members_view whole) → get_member (string_bytes e.0) (members_view back) ≡ None
-absent_after front e back whole is apart = clear front (subst (λ es. NoClash (members_view es)) is apart)
-  where
-    clear : (xs : List Entry) → NoClash (members_view (xs ++ e ∷ back)) → get_member (string_bytes e.0) (members_view back) ≡ None
-    clear [] h = h.0
-    clear (x ∷ xs) h = clear xs h.1
+pub next_property : (done : Members) (s : Place) (front back whole : List Entry) (e : Entry) (base laid : Members) → whole ≡ front ++ e ∷ back → NoClash (members_view whole) → laid ≡ lay_members done s (members_view back) base → is_base_name s (string_bytes e.0) ≡ false
+    → IsNext done s (string_bytes e.0) (view e.1) laid (lay_members done s (members_view (e ∷ back)) base) (lay_members done s (members_view whole) base)
+next_property done s front back whole e base laid split apart is b =
+    let k = string_bytes e.0 in
+    let d = view e.1 in
+    let (found, none) = entry_alone front back e (subst (λ es. NoClash (members_view es)) split apart) in
+    let below : get_member k laid ≡ get_member k base = ap (get_member k) is ∙ lay_members-absent done s k (members_view back) base none in
+    record {
+      put = ap (λ x. put k (lay done (place_under s k) d x) laid) below ∙ ap (put k (lay done (place_under s k) d (get_member k base))) is ∙ sym (lay_members-first done s k d (members_view back) base b);
+      part = rw below (member_within k _ _ (lay_members-found done s k d (members_view whole) base b (ap (λ es. get_member k (members_view es)) split ∙ found))).few;
+    }
 
 -- the base's entries with those of their names over them, and the new ones, are parts of the laid list
 list_parts : (done : Members) (s : Place) (es : Items) (base : Option Data) → lists_members s ≡ true
@@ -114,23 +108,6 @@ over_size done s es base is = omega (arith, list_parts done s es base is)
 pub new_size : (done : Members) (s : Place) (es : Items) (base : Option Data) → lists_members s ≡ true
     → items_size (lay_new done es (items_below base)) ≤ size (lay done s (array es) base)
 new_size done s es base is = omega (arith, list_parts done s es base is)
-
--- the new entries of an object, before the others
-new_member_size : (done ms : Members) (seen rest : Items) → items_size (lay_new_member done ms seen rest) ≡ items_size (lay_new_member done ms seen no_items) + items_size rest
-new_member_size done no_members seen rest = omega arith
-new_member_size done (member n d ms) seen rest = elim (cases_Bool (has_entry n seen)) [ inl is ↦ rw is (new_member_size done ms seen rest) | inr is ↦ rw is (omega (arith, new_member_size done ms seen rest)) ]
-
-pub new_entry_size : (done : Members) (e : Data) (seen rest : Items) → items_size (lay_new_entry done e seen rest) ≡ items_size (lay_new_entry done e seen no_items) + items_size rest
-new_entry_size done (object ms) seen rest = new_member_size done ms seen rest
-new_entry_size done _ seen rest = omega arith
-
--- the new entries of the next item, and those of the later ones
-pub new_next : (done : Members) (seen : Items) (vs : List Value) (i : ℕ) (v : Value) → i < length vs → v ≡ get_or vs i v
-    → items_size (lay_new done (items_view (drop i vs)) seen) ≡ items_size (lay_new_entry done (view v) seen no_items) + items_size (lay_new done (items_view (drop (i + 1) vs)) seen)
-new_next done seen vs i v below is =
-    at_drop_more (λ ws. items_size (lay_new done (items_view ws) seen)) vs i v below
-    ∙ ap (λ w. items_size (lay_new_entry done (view w) seen (lay_new done (items_view (drop (i + 1) vs)) seen))) (sym is)
-    ∙ new_entry_size done (view v) seen (lay_new done (items_view (drop (i + 1) vs)) seen)
 
 -- ---- values that are no larger than others: they have no more JSON values, and nest no deeper
 
@@ -212,7 +189,7 @@ rest_covers k l d e ms ns one none covers q c is = let (f, there, h) = covers q 
 first_covers : (k l : List ℕ) (d e : Data) (ms ns : Members) → k ≡ l → Covers (member k d ms) (member l e ns) → NoLarger d e
 first_covers k l d e ms ns one covers =
     let (f, there, h) = covers k d (get_first k d ms) in
-    subst (NoLarger d) (value_same f e (sym there ∙ get_same k l e ns one)) h
+    subst (NoLarger d) (same_Some f e (sym there ∙ get_same k l e ns one)) h
 
 -- an object in order is no larger than one in order that covers it
 pub covered : (ns ms : Members) → IsInOrder ms → IsInOrder ns → Covers ms ns → NoLargerMembers ms ns

@@ -1,17 +1,17 @@
 -- What is wrong at a place of field types, part by part.
-use Rattle.std.proofs.Common.{◌≡◌, ◌++◌, ◌<◌, ◌≤◌, ℕ, List, [], length, nat_lt, true, false, Ok, Err, refl, arith, ◌&&◌, zero, suc, Bool, cond, ◌∷◌, Some, None, is_some, inl, inr, sym, subst, ◌⊎◌, ap, ◌∙◌, true≢false, Vec, Global}
-use Rattle.std.proofs.lemmas.Bool.{le-ltb, lt-ltb, cases_Bool, ltb-false}
-use Rattle.serde_json.specs.{Data.{Data, array, Members, null, object, Items, no_items, item, no_members, member, put, string}, Find.{get_item, get_member}}
+use Rattle.std.proofs.Common.{◌≡◌, ◌++◌, map, ◌<◌, ◌≤◌, ℕ, List, [], length, nat_lt, true, false, Ok, Err, refl, arith, ◌&&◌, zero, suc, Bool, cond, ◌∷◌, Some, None, is_some, inl, inr, sym, subst, ◌⊎◌, ap, ◌∙◌, true≢false, Vec, Global}
+use Rattle.std.proofs.lemmas.{Bool.{le-ltb, lt-ltb, cases_Bool, ltb-false}, Option.same_Some}
+use Rattle.serde_json.specs.{Data.{Data, array, Members, object, Items, no_items, item, no_members, member, string}, Find.{get_item, get_member}}
 use Rattle.serde_json.specs.{View.view, declared.value.Value.{Value, Array}, Events.items_len}
 use Rattle.serde_json.proofs.Views.{items_len-items_view, view-Array}
-use Rattle.conf_tree.specs.{Flaw.{here, Place as Step, key, index, within}, Walk.{refusal, HasMember}, declared.fault_kind.FaultKind.TheVariants.Limit}
+use Rattle.conf_tree.specs.{Flaw.{Flaw, here, Place as Step, key, index, within}, Walk.{refusal, HasMember}, declared.fault_kind.FaultKind.TheVariants.Limit}
 use Rattle.conf_table.specs.{declared.place.Place.Place, Table.{rows_of, entries_of, place_in, content_under}}
 use Rattle.conf_inherit.specs.FieldPlaces.{names_alias, names_member_type, lists_extra_members, place_under, place_of_items, is_entry, field_place, leads_on, lists_members}
-use Rattle.conf_inherit.specs.Flaws.{own_flaws, base_flaws, type_flaws, mark_names, mark, inner_flaws, item_flaws, member_flaws, flaws}
-use Rattle.conf_inherit.specs.{Limits.limit_flaws, Places.{too_many, place_flaws, max_extra_members, inner_places, item_places, member_places}, Named.has}
-use Rattle.conf_inherit.specs.Faults.{Leads, HasEntry, ListsTooMany}
-use Rattle.conf_inherit.proofs.{FaultLemmas.{member_parts, item_parts, is_still, is_put, same_part, part_empty, joined_empty}, FieldPlaceLemmas.ignored_under}
-use Rattle.conf_inherit.proofs.{WorkedPlaces.{true_under, under_place}, LimitLemmas.{both_empty, alike_inner, sound_type}}
+use Rattle.conf_inherit.specs.Flaws.{own_flaws, base_flaws, type_flaws, mark, inner_flaws, item_flaws, member_flaws, flaws}
+use Rattle.conf_inherit.specs.{Limits.limit_flaws, Places.{too_many, place_flaws, max_extra_members, inner_places, item_places, member_places}}
+use Rattle.conf_inherit.specs.Faults.{Leads, ListsTooMany}
+use Rattle.conf_inherit.proofs.{FaultLemmas.{same_part, part_empty, joined_empty}, FieldPlaceLemmas.ignored_under}
+use Rattle.conf_inherit.proofs.{WorkedPlaces.{true_under, under_place}, LimitLemmas.{both_empty, fits_inside, sound_type}}
 use Rattle.conf_table.specs.declared.place.Place.TheVariants as places
 
 pub count_past : (v : Value) (vs : Vec Value Global) → v ≡ Array vs → 256 < length vs.items → refusal (too_many (view v)) ≡ Err (here Limit)
@@ -49,84 +49,34 @@ module _ (al done : Members) (s : Place) (v : Data) where
 -- The parts of a value without a flaw: none of them has one, and the entries of a members list have names of their own.
 
 module _ (al : Members) where
-  pub record PartSound (s : Place) (taken : Bool) (seen : Members) (v : Data) : Type 0 where
-    pub own : own_flaws al s taken v ≡ []
-    pub inner : inner_flaws al None s seen v ≡ []
-
-  pub part_sound : (s : Place) (taken : Bool) (seen : Members) (v : Data) → own_flaws al s taken v ++ inner_flaws al None s seen v ≡ [] → PartSound s taken seen v
-  part_sound s taken seen v e = record { own = (joined_empty (own_flaws al s taken v) (inner_flaws al None s seen v) e).0; inner = (joined_empty (own_flaws al s taken v) (inner_flaws al None s seen v) e).1 }
-
-  pub member_sound : (s : Place) (seen ms : Members) (k : List ℕ) (d : Data) → member_flaws al None s seen ms ≡ [] → HasMember k d ms → PartSound (place_under s k) (is_entry s && is_some (get_member k seen)) no_members d
+  pub member_sound : (s : Place) (seen ms : Members) (k : List ℕ) (d : Data) → member_flaws al None s seen ms ≡ [] → HasMember k d ms → flaws al None (place_under s k) (is_entry s && is_some (get_member k seen)) no_members d ≡ []
   member_sound s seen no_members k d e there = absurd there
-  member_sound s seen (member l v ms) k d e (inl same) =
-      let (own, inner, later) = member_parts al None s seen l v ms e in
-      let both : PartSound (place_under s l) (is_entry s && is_some (get_member l seen)) no_members v = record { own = own; inner = inner } in
-      subst (λ n. PartSound (place_under s n) (is_entry s && is_some (get_member n seen)) no_members d) (sym same.0) (subst (λ x. PartSound (place_under s l) (is_entry s && is_some (get_member l seen)) no_members x) (sym same.1) both)
-  member_sound s seen (member l v ms) k d e (inr later) = let parts = member_parts al None s seen l v ms e in member_sound s seen ms k d parts.2 later
+  member_sound s seen (member l v ms) k d e (inl same) = rw (same.0, same.1) (joined_empty _ _ (part_empty (within (key l)) _ _ e).0).0
+  member_sound s seen (member l v ms) k d e (inr later) = member_sound s seen ms k d (part_empty (within (key l)) _ _ e).1 later
 
-  -- the names of the entries so far are marked
-  mark_keeps : (ms seen : Members) (n : List ℕ) → has seen n ≡ true → has (mark_names ms seen) n ≡ true
-  mark_keeps no_members seen n h = h
-  mark_keeps (member m d ms) seen n h = mark_keeps ms (put m null seen) n (is_still m null seen n h)
-
-  mark_has : (ms seen : Members) (n : List ℕ) (d : Data) → HasMember n d ms → has (mark_names ms seen) n ≡ true
-  mark_has no_members seen n d there = absurd there
-  mark_has (member m e ms) seen n d (inl same) = subst (λ k. has (mark_names ms (put m null seen)) k ≡ true) (sym same.0) (mark_keeps ms (put m null seen) m (is_put m null seen))
-  mark_has (member m e ms) seen n d (inr later) = mark_has ms (put m null seen) n d later
-
-  entry_keeps : (e : Data) (seen : Members) (n : List ℕ) → has seen n ≡ true → has (mark e seen) n ≡ true
-  entry_keeps (object ms) seen n h = mark_keeps ms seen n h
-  entry_keeps _ seen n h = h
-
-  pub record ItemSound (s : Place) (es : Items) (seen : Members) (j : ℕ) (e : Data) : Type 0 where
-    pub marks : Members
-    pub sound : PartSound (place_of_items s) false marks e
-    pub kept : (n : List ℕ) → has seen n ≡ true → has marks n ≡ true
-    pub marked : (n : List ℕ) (i : ℕ) → i < j → HasEntry i n es → has marks n ≡ true
-
-  marked_later : (s : Place) (x : Data) (es : Items) (seen : Members) (j : ℕ) (e : Data) (later : ItemSound s es (mark x seen) j e) (n : List ℕ) (k : ℕ) → k < suc j → HasEntry k n (item x es) → has later.marks n ≡ true
-  marked_later s x es seen j e later n zero below (ms, d, is, there) =
-      let same : x ≡ object ms = cc in
-      later.kept n (subst (λ y. has (mark y seen) n ≡ true) (sym same) (mark_has ms seen n d there))
-  marked_later s x es seen j e later n (suc k) below entry = later.marked n k (omega (arith, below)) entry
-
-  pub item_sound : (s : Place) (i : ℕ) (seen : Members) (es : Items) (j : ℕ) (e : Data) → item_flaws al None s i seen es ≡ [] → get_item j es ≡ Some e → ItemSound s es seen j e
-  item_sound s i seen no_items j e none there = absurd cc
-  item_sound s i seen (item x es) zero e none there =
-      let same : x ≡ e = cc in
-      let (own, inner, later) = item_parts al None s i seen x es none in
-      let mine : PartSound (place_of_items s) false seen x = record { own = own; inner = inner } in
-      record {
-        marks = seen;
-        sound = subst (PartSound (place_of_items s) false seen) same mine;
-        kept = λ n h. h;
-        marked = λ n k below entry. absurd (omega (arith, below));
-      }
-  item_sound s i seen (item x es) (suc j) e none there =
-      let parts = item_parts al None s i seen x es none in
-      let later = item_sound s (suc i) (mark x seen) es j e parts.2 there in
-      record {
-        marks = later.marks;
-        sound = later.sound;
-        kept = λ n h. later.kept n (entry_keeps x seen n h);
-        marked = marked_later s x es seen j e later;
-      }
-
-  -- the value that a path leads to has no flaw of its own, nor one inside
-  pub record SoundAt (t : Place) (w : Data) : Type 0 where
+  -- a value has no flaw of its own, nor one inside
+  pub record SoundAt (s : Place) (v : Data) : Type 0 where
     pub taken : Bool
     pub seen : Members
-    pub sound : PartSound t taken seen w
+    pub sound : flaws al None s taken seen v ≡ []
 
-  pub sound_along : (path : List Step) (s : Place) (v : Data) (t : Place) (w : Data) (taken : Bool) (seen : Members) → PartSound s taken seen v → Leads s v path t w → SoundAt t w
-  sound_along [] s v t w taken seen h (place, value) = record { taken = taken; seen = seen; sound = subst (λ x. PartSound x taken seen w) place (subst (PartSound s taken seen) value h) }
-  sound_along (key k ∷ path) s v t w taken seen h (ms, d, is, there, leads) =
-      let inner : member_flaws al None s seen ms ≡ [] = subst (λ x. inner_flaws al None s seen x ≡ []) is h.inner in
-      sound_along path (place_under s k) d t w (is_entry s && is_some (get_member k seen)) no_members (member_sound s seen ms k d inner there) leads
-  sound_along (index i ∷ path) s v t w taken seen h (es, d, is, there, leads) =
-      let inner : item_flaws al None s 0 no_members es ≡ [] = subst (λ x. inner_flaws al None s seen x ≡ []) is h.inner in
-      let one = item_sound s 0 no_members es i d inner there in
-      sound_along path (place_of_items s) d t w false one.marks one.sound leads
+  pub sound_under : (s : Place) (ms : Members) (k : List ℕ) (d : Data) → SoundAt s (object ms) → HasMember k d ms → SoundAt (place_under s k) d
+  sound_under s ms k d h there = record { taken = is_entry s && is_some (get_member k h.seen); seen = no_members; sound = member_sound s h.seen ms k d (joined_empty _ _ h.sound).1 there }
+
+  item_sound : (s : Place) (i : ℕ) (seen : Members) (es : Items) (j : ℕ) (e : Data) → item_flaws al None s i seen es ≡ [] → get_item j es ≡ Some e → SoundAt (place_of_items s) e
+  item_sound s i seen no_items j e none there = absurd cc
+  item_sound s i seen (item x es) zero e none there =
+      let mine : SoundAt (place_of_items s) x = record { taken = false; seen = seen; sound = (part_empty (within (index i)) _ _ none).0 } in
+      subst (SoundAt (place_of_items s)) (same_Some x e there) mine
+  item_sound s i seen (item x es) (suc j) e none there = item_sound s (suc i) (mark x seen) es j e (part_empty (within (index i)) _ _ none).1 there
+
+  pub sound_item : (s : Place) (es : Items) (i : ℕ) (e : Data) → SoundAt s (array es) → get_item i es ≡ Some e → SoundAt (place_of_items s) e
+  sound_item s es i e h there = item_sound s 0 no_members es i e (joined_empty _ _ h.sound).1 there
+
+  pub sound_along : (path : List Step) (s : Place) (v : Data) (t : Place) (w : Data) → SoundAt s v → Leads s v path t w → SoundAt t w
+  sound_along [] s v t w h (place, value) = subst (λ x. SoundAt x w) place (subst (SoundAt s) value h)
+  sound_along (key k ∷ path) s v t w h (ms, d, is, there, leads) = sound_along path (place_under s k) d t w (sound_under s ms k d (subst (SoundAt s) is h) there) leads
+  sound_along (index i ∷ path) s v t w h (es, d, is, there, leads) = sound_along path (place_of_items s) d t w (sound_item s es i d (subst (SoundAt s) is h) there) leads
 
 -- In a tree that has a resolution no packet context lists too many extra members.
 
@@ -174,17 +124,13 @@ no_extras s v elsewhere (es, is, extras, many) = true≢false (sym elsewhere ∙
 -- ---- what the places say
 
 module _ (al done : Members) where
-  pub record PlaceSound (s : Place) (v : Data) : Type 0 where
-    pub own : place_flaws al done s v ≡ []
-    pub inner : inner_places al done s v ≡ []
+  -- what is wrong with a value at a place, and at the places in it
+  abbrev pub parts : Place → Data → List Flaw
+  parts s v = place_flaws al done s v ++ inner_places al done s v
 
-  pub place_sound : (s : Place) (v : Data) → place_flaws al done s v ++ inner_places al done s v ≡ [] → PlaceSound s v
-  place_sound s v e = let (own, inner) = joined_empty _ _ e in record { own = own; inner = inner }
-
-  pub member_place : (s : Place) (ms : Members) (k : List ℕ) (d : Data) → member_places al done s ms ≡ [] → HasMember k d ms → PlaceSound (place_under s k) d
+  pub member_place : (s : Place) (ms : Members) (k : List ℕ) (d : Data) → member_places al done s ms ≡ [] → HasMember k d ms → parts (place_under s k) d ≡ []
   member_place s no_members k d e there = absurd there
-  member_place s (member l v ms) k d e (inl same) =
-      subst (λ n. PlaceSound (place_under s n) d) (sym same.0) (subst (PlaceSound (place_under s l)) (sym same.1) (place_sound (place_under s l) v (part_empty (within (key l)) _ _ e).0))
+  member_place s (member l v ms) k d e (inl same) = rw (same.0, same.1) (part_empty (within (key l)) _ _ e).0
   member_place s (member l v ms) k d e (inr later) = member_place s ms k d (part_empty (within (key l)) _ _ e).1 later
 
   pub object_places : (s : Place) (ms : Members) → leads_on s ≡ true → inner_places al done s (object ms) ≡ [] → member_places al done s ms ≡ []
@@ -205,9 +151,9 @@ module _ (al done : Members) where
       let short = ltb-false max_extra_members (items_len es) (few (nat_lt max_extra_members (items_len es)) (joined_empty (too_many (array es)) (own_flaws al places.ExtraMembers false (array es)) told).0) in
       omega (arith, short, many)
 
-  pub root_place : (t : Data) → inner_places al done places.Root t ≡ [] → PlaceSound places.Root t
-  unfolding names_alias names_member_type lists_extra_members
-  root_place t e = record { own = place_of_other al done places.Root t refl refl refl; inner = e }
+  pub root_place : (t : Data) → inner_places al done places.Root t ≡ [] → parts places.Root t ≡ []
+  unfolding place_flaws names_alias names_member_type lists_extra_members
+  root_place t e = e
 
   pub extras_fine : (s : Place) (v : Data) → place_flaws al done s v ≡ [] → ¬ ListsTooMany s v
   extras_fine s v e (es, is, extras, many) = extras_few es (subst (λ x. place_flaws al done x (array es) ≡ []) (extras_there s extras) (subst (λ x. place_flaws al done s x ≡ []) is e)) many
@@ -312,23 +258,22 @@ module _ (al done : Members) where
   extras_sound (item x es) i seen e =
       let t = place_of_items places.ExtraMembers in
       let (mine, later) = part_empty (within (index i)) (flaws al (Some done) t false seen x ++ inner_places al done t x) _ e in
-      let (own, inner) = joined_empty (own_flaws al t false x) (inner_flaws al (Some done) t seen x) (joined_empty _ _ mine).0 in
-      same_part (within (index i)) _ _ _ [] [] [] own ((alike_inner done al x t seen).0 inner).0 (extras_sound es (suc i) (mark x seen) later)
+      both_empty _ _ (ap (map (within (index i))) (fits_inside done al x t false seen (joined_empty _ _ mine).0).0) (extras_sound es (suc i) (mark x seen) later)
 
-  sound_value : (v : Data) (s : Place) → IsOutside s → PlaceSound al done s v → (names_alias s ≡ false → inner_flaws al None s no_members v ≡ []) → flaws al None s false no_members v ≡ []
-  sound_value v s out p inner = elim (cases_Bool (names_alias s)) [
-    | inl is ↦ ((sound_type done al s v).0 (sym (place_of_type al done s v is) ∙ p.own)).0
-    | inr no_type ↦ both_empty (own_flaws al s false v) (inner_flaws al None s no_members v) (own_outside s v out no_type p.own) (inner no_type)
+  sound_value : (v : Data) (s : Place) → IsOutside s → parts al done s v ≡ [] → (names_alias s ≡ false → inner_flaws al None s no_members v ≡ []) → flaws al None s false no_members v ≡ []
+  sound_value v s out p inner = let own = (joined_empty _ _ p).0 in elim (cases_Bool (names_alias s)) [
+    | inl is ↦ ((sound_type done al s v).0 (sym (place_of_type al done s v is) ∙ own)).0
+    | inr no_type ↦ both_empty (own_flaws al s false v) (inner_flaws al None s no_members v) (own_outside s v out no_type own) (inner no_type)
   ]
 
   mutual
-    sound_inner : (v : Data) (s : Place) → IsOutside s → names_alias s ≡ false → PlaceSound al done s v → inner_flaws al None s no_members v ≡ []
+    sound_inner : (v : Data) (s : Place) → IsOutside s → names_alias s ≡ false → inner_places al done s v ≡ [] → inner_flaws al None s no_members v ≡ []
     sound_inner (array es) s out no_type p = elim (extras_or_ignored s out) [
       | inl extras ↦ (let place = extras_there s extras in
-          subst (λ t. item_flaws al None t 0 no_members es ≡ []) (sym place) (extras_sound es 0 no_members (list_places al done es (subst (λ t. inner_places al done t (array es) ≡ []) place p.inner))))
+          subst (λ t. item_flaws al None t 0 no_members es ≡ []) (sym place) (extras_sound es 0 no_members (list_places al done es (subst (λ t. inner_places al done t (array es) ≡ []) place p))))
       | inr ignored ↦ ignored_items al es s 0 no_members ignored
     ]
-    sound_inner (object ms) s out no_type p = sound_members ms s out no_type (λ on. object_places al done s ms on p.inner)
+    sound_inner (object ms) s out no_type p = sound_members ms s out no_type (λ on. object_places al done s ms on p)
     sound_inner _ s out no_type p = refl
 
     sound_members : (ms : Members) (s : Place) → IsOutside s → names_alias s ≡ false → (leads_on s ≡ true → member_places al done s ms ≡ []) → member_flaws al None s no_members ms ≡ []
@@ -336,12 +281,12 @@ module _ (al done : Members) where
     sound_members (member k d ms) s out no_type places =
         let t = place_under s k in
         member_none al s no_members k d ms (not_entry s out) (elim (on_or_ignored s k out no_type) [
-          | inl on ↦ (let p = place_sound al done t d (part_empty (within (key k)) _ _ (places on)).0 in
-              sound_value d t (under_outside s k out on) p (λ no. sound_inner d t (under_outside s k out on) no p))
+          | inl on ↦ (let p = (part_empty (within (key k)) _ _ (places on)).0 in
+              sound_value d t (under_outside s k out on) p (λ no. sound_inner d t (under_outside s k out on) no (joined_empty _ _ p).1))
           | inr ignored ↦ both_empty _ _ (own_ignored al t d ignored) (ignored_inner al d t no_members ignored)
         ]) (sound_members ms s out no_type (λ on. (part_empty (within (key k)) _ _ (places on)).1))
 
   -- where nothing is wrong at the places of a configuration, it has no flaw
   pub flawless : (t : Data) → inner_places al done places.Root t ≡ [] → flaws al None places.Root false no_members t ≡ []
   unfolding leads_on
-  flawless t e = sound_value t places.Root refl (root_place al done t e) (λ no. sound_inner t places.Root refl no (root_place al done t e))
+  flawless t e = sound_value t places.Root refl (root_place al done t e) (λ no. sound_inner t places.Root refl no e)

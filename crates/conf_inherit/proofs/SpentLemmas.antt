@@ -1,5 +1,5 @@
 -- A property whose value is written anew.
-use Rattle.std.proofs.Common.{◌≡◌, ℕ, Some, None, List, [], ◌∷◌, string_cmp, string_bytes, nat_cmp, refl, sym, ap, ◌∙◌, ◌+◌, ◌&&◌, ◌||◌, ◌++◌, ◌⊎◌, inl, inr, suc, map, Option, is_some, Bool, true, false, not, true≢false, bytes_eq, if◌then◌else◌, is_eq, subst, arith, rules}
+use Rattle.std.proofs.Common.{◌≡◌, ℕ, Some, None, List, [], ◌∷◌, string_cmp, string_bytes, nat_cmp, refl, sym, ap, ◌∙◌, ◌+◌, ◌≤◌, ◌&&◌, ◌||◌, ◌++◌, ◌⊎◌, inl, inr, suc, map, Option, is_some, Bool, true, false, not, true≢false, bytes_eq, if◌then◌else◌, is_eq, subst, arith, rules}
 use Rattle.std.proofs.{lemmas.Bool.{cases_Bool, or_left}, lemmas.Slice.Eq.bytes_eq-Decides, lemmas.Map.Text.is_eq-slice_cmp}
 use Rattle.std.specs.{BTreeMap.is_at, Cmp.Lexicographic.slice_cmp, List.Sorted.IsStrictlySortedBy, Map.{keys_of, set_value}}
 use Rattle.serde_json.specs.{Data.{Data, member, put, null, array, object, Items, no_items, item, Members, no_members}, View.{view, members_view}}
@@ -7,11 +7,11 @@ use Rattle.serde_json.specs.{Find.get_member, declared.value.Value.{Value, Null,
 use Rattle.serde_json.proofs.Views.{Entry}
 use Rattle.conf_inherit.specs.{Names.{AllAbove, NoClash}, Limits.{fitting, limit_flaws}, Named.{all_named, has}, Spent.{Spends, spent, TurnsLeave}}
 use Rattle.conf_inherit.specs.{FieldPlaces.{place_under, place_of_items, lists_extra_members, leads_on}, AliasFlaws.{over_names, alias_flaws, all_alias_flaws}}
-use Rattle.conf_inherit.specs.{Flaws.{own_flaws, flaws, type_flaws, mark}, Laying.lay, Places.{place_flaws, inner_places, item_places, member_places}}
-use Rattle.conf_inherit.specs.Rounds.{Outcomes, has_outcome, is_over, is_empty, if_fitting, outcome, concluded, step, round, rounds, no_outcomes, Reached, at_first, turned, is_settled, all_settled}
-use Rattle.conf_inherit.proofs.LayingLemmas.{above_through, get_none, Meets, same, other, meets, get_other, get_same, same_function, stands, some_is_none}
-use Rattle.conf_inherit.proofs.{RoundLemmas.{above_of, by_turn}, LimitLemmas.{alike_own, alike_flaws}}
-use Rattle.conf_inherit.proofs.{TurnLemmas.{Follows, follows_round, turns_are_rounds, is_settled_state}, FaultLemmas.{same_part, is_still, all_pass}}
+use Rattle.conf_inherit.specs.{Flaws.{flaws, type_flaws, mark}, Laying.lay, Places.{place_flaws, inner_places, item_places, member_places}}
+use Rattle.conf_inherit.specs.Rounds.{Outcomes, has_outcome, is_over, is_empty, if_fitting, outcome, step, round, rounds, no_outcomes, Reached, at_first, turned, is_settled, all_settled}
+use Rattle.conf_inherit.proofs.LayingLemmas.{above_of, above_through, get_none, Meets, same, other, meets, get_other, get_same, same_function, stands, some_is_none, found_each}
+use Rattle.conf_inherit.proofs.{RoundLemmas.{Agrees, round_reached, count}, LimitLemmas.{alike_own, alike_flaws, alike_in}}
+use Rattle.conf_inherit.proofs.{TurnLemmas.{step_agrees, round_agrees, round_grows, full_settled, turns_are_rounds, is_settled_state}, FaultLemmas.{same_part}}
 use Rattle.conf_tree.specs.Flaw.{key, index, within}
 use Rattle.conf_table.specs.declared.place.Place.{Place}
 use Rattle.conf_table.specs.declared.place.Place.TheVariants as places
@@ -98,17 +98,14 @@ same_body done _ _ h n free = absurd h
 
 module _ (al now : Members) (names : (n : List ℕ) → is_some (get_member n now) ≡ is_some (get_member n al)) where
   same_flaws : (known : Option Members) (s : Place) (taken : Bool) (seen : Members) (v : Data) → flaws now known s taken seen v ≡ flaws al known s taken seen v
-  same_flaws known s taken seen v = alike_flaws al now names known known (λ n. true) (λ s k d h. refl) s taken seen v (all_pass s v)
-
-  same_own : (s : Place) (v : Data) → own_flaws now s false v ≡ own_flaws al s false v
-  same_own s v = alike_own al now names s false v
+  same_flaws known s taken seen v = alike_flaws al now names known known s taken seen v (alike_in al now names known known v s seen (λ d x. refl))
 
   same_type : (done : Members) (s : Place) (v : Data) → type_flaws now done s v ≡ type_flaws al done s v
   same_type done s v = ap (λ x. x ++ limit_flaws done s v) (same_flaws (Some done) s false no_members v)
 
   same_place : (done : Members) (s : Place) (v : Data) → place_flaws now done s v ≡ place_flaws al done s v
   unfolding place_flaws
-  same_place done s v = let type = same_type done s v in let own = same_own s v in cc
+  same_place done s v = let type = same_type done s v in let own = alike_own al now names s false v in cc
 
   mutual
     -- what is wrong at the places of a configuration
@@ -138,16 +135,8 @@ module _ (al now : Members) (names : (n : List ℕ) → is_some (get_member n no
   same_step k w st = let due = same_due st w in let value = same_outcome st.done w in cc
 
 -- what is resolved stays so
-kept_step : (al : Members) (k : List ℕ) (w : Data) (st : Outcomes) (n : List ℕ) → has st.done n ≡ true → has (step al k w st).done n ≡ true
-kept_step al k w st n h = by_turn al (λ x. has x.done n ≡ true) k w st h (λ free due. kept (outcome al st.done w))
-  where
-    kept : (o : Option Data) → has (concluded k st o).done n ≡ true
-    kept None = h
-    kept (Some r) = is_still k r st.done n h
-
-kept_round : (al ms : Members) (st : Outcomes) (n : List ℕ) → has st.done n ≡ true → has (round al ms st).done n ≡ true
-kept_round al no_members st n h = h
-kept_round al (member k w ms) st n h = kept_round al ms (step al k w st) n (kept_step al k w st n h)
+still_done : (st next : Outcomes) → Agrees st next → (n : List ℕ) → has st.done n ≡ true → has next.done n ≡ true
+still_done st next agrees n h = ap is_some (agrees n (or_left (has st.done n) (has st.refused n) h)).0 ∙ h
 
 -- what is the same of a resolved alias whatever its body is the same of what is left
 spent_same : {A : Type 0} (f : Data → A) (st : Outcomes) (k : List ℕ) (v w : Data) → (v ≡ w) ⊎ ((v ≡ null) × (has st.done k ≡ true)) → (has st.done k ≡ true → f v ≡ f w) → f v ≡ f w
@@ -162,7 +151,7 @@ spent_round : (al now : Members) → ((n : List ℕ) → is_some (get_member n n
 spent_round al now names no_members no_members st h = refl
 spent_round al now names (member k w ms) (member j v vs) st h =
     ap (round now vs) (same_step al now names j v st ∙ spent_step al k j v w st h.0 h.1.0)
-    ∙ spent_round al now names ms vs (step al k w st) (spends_more st.done (step al k w st).done (kept_step al k w st) ms vs h.1.1)
+    ∙ spent_round al now names ms vs (step al k w st) (spends_more st.done (step al k w st).done (still_done st _ (step_agrees al k w st)) ms vs h.1.1)
 spent_round al now names _ _ st h = absurd h
 
 spent_settled : (al now : Members) → ((n : List ℕ) → is_some (get_member n now) ≡ is_some (get_member n al)) → (ms vs : Members) (st : Outcomes) → Spends st.done ms vs → all_settled now vs st ≡ all_settled al ms st
@@ -182,7 +171,7 @@ same_all_settled al now st h = spent_settled al now (same_names st.done al now h
 
 -- what a round leaves of the aliases
 round_spends : (al now : Members) (st : Outcomes) → Spends st.done al now → Spends (round al al st).done al now
-round_spends al now st h = spends_more st.done (round al al st).done (kept_round al al st) al now h
+round_spends al now st h = spends_more st.done (round al al st).done (still_done st _ (round_agrees al al st)) al now h
 
 -- ---- what is wrong with the aliases
 
@@ -220,7 +209,7 @@ first_leaves al st is = record { reached = subst (Reached al) (sym is) at_first;
 -- a turn over what is left of the aliases is one of the aliases
 pub turn_leaves : (al now : Members) (k : List ℕ) (v : Data) (st : Outcomes) → get_member k now ≡ Some v → TurnsLeave al st now → TurnsLeave al (step now k v st) now
 turn_leaves al now k v st is h = subst (λ x. TurnsLeave al x now) (sym (same_step al now (same_names st.done al now h.spends) k v st))
-    record { reached = go (has_outcome st k) refl (has st.done k) refl; spends = spends_more st.done (step al k v st).done (kept_step al k v st) al now h.spends }
+    record { reached = go (has_outcome st k) refl (has st.done k) refl; spends = spends_more st.done (step al k v st).done (still_done st _ (step_agrees al k v st)) al now h.spends }
   where
     go : (t : Bool) → has_outcome st k ≡ t → (u : Bool) → has st.done k ≡ u → Reached al (step al k v st)
     go true a u b = rw a h.reached
@@ -231,26 +220,28 @@ turn_leaves al now k v st is h = subst (λ x. TurnsLeave al x now) (sym (same_st
 pub spent_leaves : (al now : Members) (k : List ℕ) (st : Outcomes) → has st.done k ≡ true → TurnsLeave al st now → TurnsLeave al st (spent k now)
 spent_leaves al now k st is h = record { reached = h.reached; spends = spends_spent st.done k is al now h.spends }
 
--- turns led here and so many rounds followed, with this left of the aliases
+-- turns led here, with this left of the aliases, and each of so many rounds gave an outcome
 pub record RoundsLeave (al left : Members) (st : Outcomes) (n : ℕ) : Type 0 where
-  pub follows : Follows al st n
-  pub spends : Spends st.done al left
-
-pub rounds_first : (al left : Members) (st : Outcomes) → TurnsLeave al st left → RoundsLeave al left st 0
-rounds_first al left st h = record { follows = record { reached = h.reached; few = omega arith }; spends = h.spends }
+  pub turns : TurnsLeave al st left
+  pub few : n ≤ count (has_outcome st) al
 
 -- a round over what is left of the aliases
 pub rounds_more : (al left : Members) (st after : Outcomes) (n : ℕ) → NoClash al → RoundsLeave al left st n → all_settled left left st ≡ false → after ≡ round left left st → RoundsLeave al left after (n + 1)
 rounds_more al left st after n apart before waits went =
-    let turn : after ≡ round al al st = went ∙ same_round al left st before.spends in
-    record {
-      follows = follows_round al st after n apart before.follows (sym (same_all_settled al left st before.spends) ∙ waits) turn;
-      spends = subst (λ x. Spends x.done al left) (sym turn) (round_spends al left st before.spends);
+    let spends = before.turns.spends in
+    let more = round_grows al st apart (sym (same_all_settled al left st spends) ∙ waits) in
+    subst (λ x. RoundsLeave al left x (n + 1)) (sym (went ∙ same_round al left st spends)) record {
+      turns = record { reached = round_reached al al st (found_each al apart) before.turns.reached; spends = round_spends al left st spends };
+      few = omega (arith, before.few, more);
     }
+
+-- as many rounds as there are aliases leave none due
+pub rounds_all : (al left : Members) (st : Outcomes) (n : ℕ) → NoClash al → RoundsLeave al left st n → members_len al ≡ n → st ≡ rounds al n no_outcomes
+rounds_all al left st n apart last len = turns_are_rounds al apart last.turns.reached (full_settled al st (omega (arith, len, last.few))) ∙ ap (λ m. rounds al m no_outcomes) len
 
 -- where all is settled, no round is due
 pub rounds_done : (al left : Members) (st : Outcomes) (n : ℕ) → NoClash al → RoundsLeave al left st n → all_settled left left st ≡ true → st ≡ rounds al (members_len al) no_outcomes
-rounds_done al left st n apart before settled = turns_are_rounds al apart before.follows.reached (is_settled_state al st (sym (same_all_settled al left st before.spends) ∙ settled))
+rounds_done al left st n apart before settled = turns_are_rounds al apart before.turns.reached (is_settled_state al st (sym (same_all_settled al left st before.turns.spends) ∙ settled))
 
 -- ---- null is written in the place of a value
 

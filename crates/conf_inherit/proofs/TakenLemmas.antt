@@ -1,6 +1,6 @@
 -- The aliases of a configuration: that each was resolved as it is laid, and is sound.
 use Rattle.std.proofs.Common.{string_bytes, is_eq, ◌≡◌, ◌++◌, ℕ, List, [], map, Option, Some, None, Result, Ok, Err, is_some, true, false, true≢false, refl, sym, ap, ◌∙◌, subst, inl, inr, if◌then◌else◌, ◌∷◌, option_and_then, nat_cmp}
-use Rattle.std.proofs.{lemmas.Bool.{cases_Bool, or_left}, lemmas.Slice.Eq.bytes_eq-Decides, lemmas.Map.Text.is_eq-slice_cmp}
+use Rattle.std.proofs.{lemmas.Bool.{cases_Bool, or_left}, lemmas.Slice.Eq.bytes_eq-Decides, lemmas.Map.Text.is_eq-slice_cmp, lemmas.Option.same_Some}
 use Rattle.std.specs.{Prelude.⊤, Str.bytes_eq, Cmp.Lexicographic.slice_cmp}
 use Rattle.serde_json.specs.{Data.{Data, null, object, Members, no_members, member}, declared.value.Value.Value}
 use Rattle.serde_json.specs.{Find.{get_member, get, as_object}, View.{view, members_view}}
@@ -13,8 +13,8 @@ use Rattle.conf_inherit.specs.{Named.has, FieldPlaces.{field_place, place_under,
 use Rattle.conf_inherit.specs.{Places.{place_flaws, inner_places, member_places}, Rounds.{Outcomes, has_outcome, outcome, rounds, no_outcomes, Reached}}
 use Rattle.conf_inherit.specs.Resolution.{trace_name, type_name, aliases_name, from_aliases, aliases_of, members_or_none, if_shallow, resolution_after}
 use Rattle.conf_inherit.proofs.FieldPlaceLemmas.{trace_place, trace_type_place, aliases_place}
-use Rattle.conf_inherit.proofs.LayingLemmas.{differs, cases_Option, value_same, same_members, in_order_lay, lay_members-absent, lay_members-found, same, other, meets, get_other, get_same, AllEntries, all_along, found_each}
-use Rattle.conf_inherit.proofs.{LimitLemmas.fitting_value, SoundPlaces.place_of_type, RoundLemmas.{no_flaws, sound_of, outcome_is, all_done, rounds_reached}}
+use Rattle.conf_inherit.proofs.LayingLemmas.{differs, cases_Option, same_members, in_order_lay, lay_members-absent, lay_members-found, same, other, meets, get_other, get_same, AllEntries, all_along, found_each}
+use Rattle.conf_inherit.proofs.{LimitLemmas.fitting_value, SoundPlaces.{parts, place_of_type}, RoundLemmas.{no_flaws, sound_of, outcome_is, all_done, rounds_reached}}
 use Rattle.conf_inherit.proofs.{FaultLemmas.some_of, TurnLemmas.reached_sound, SpentLemmas.{written, same_names, same_alias_flaws, same_places}}
 use Rattle.conf_table.specs.declared.place.Place.TheVariants as places
 
@@ -123,7 +123,7 @@ members_same : (n : List ℕ) (f : Data → Data) (ms : Members) → ((d : Data)
 members_same n f no_members each = refl
 members_same n f (member k d ms) each = elim (meets n k) [
   | same e ↦ (let is : bytes_eq k n ≡ true = (bytes_eq-Decides k n).1 (sym e) in rw is (ap (λ x. member k x ms) (each d (get_same n k d ms e))))
-  | other away ↦ (let is : bytes_eq k n ≡ false = differs k n (λ e. away (sym e)) (bytes_eq k n) refl in rw is (ap (member k d) (members_same n f ms (λ e at. each e (get_other n k d ms away ∙ at)))))
+  | other away ↦ (let is : bytes_eq k n ≡ false = differs k n (λ e. away (sym e)) in rw is (ap (member k d) (members_same n f ms (λ e at. each e (get_other n k d ms away ∙ at)))))
 ]
 
 value_stays : (n : List ℕ) (f : Data → Data) (v : Data) → ((d : Data) → get n v ≡ Some d → f d ≡ d) → in_property n f v ≡ v
@@ -142,10 +142,10 @@ written_with n f d w (e ∷ es) there is =
     elim (meets n (string_bytes e.0)) [
       | same one ↦ (let here : is_eq (slice_cmp nat_cmp n (string_bytes e.0)) ≡ true = at ∙ (bytes_eq-Decides n (string_bytes e.0)).1 one in
           let way : bytes_eq (string_bytes e.0) n ≡ true = (bytes_eq-Decides (string_bytes e.0) n).1 (sym one) in
-          let mine : d ≡ view e.1 = value_same d (view e.1) (sym there ∙ get_same n (string_bytes e.0) (view e.1) (members_view es) one) in
+          let mine : d ≡ view e.1 = same_Some d (view e.1) (sym there ∙ get_same n (string_bytes e.0) (view e.1) (members_view es) one) in
           rw (here, way) (ap (λ x. member (string_bytes e.0) x (members_view es)) (is ∙ ap f mine)))
-      | other apart ↦ (let here : is_eq (slice_cmp nat_cmp n (string_bytes e.0)) ≡ false = at ∙ differs n (string_bytes e.0) apart _ refl in
-          let way : bytes_eq (string_bytes e.0) n ≡ false = differs (string_bytes e.0) n (λ q. apart (sym q)) _ refl in
+      | other apart ↦ (let here : is_eq (slice_cmp nat_cmp n (string_bytes e.0)) ≡ false = at ∙ differs n (string_bytes e.0) apart in
+          let way : bytes_eq (string_bytes e.0) n ≡ false = differs (string_bytes e.0) n (λ q. apart (sym q)) in
           rw (here, way) (ap (member (string_bytes e.0) (view e.1)) (written_with n f d w es (sym (get_other n (string_bytes e.0) (view e.1) (members_view es) apart) ∙ there) is)))
     ]
 
@@ -198,9 +198,6 @@ bare_again t es v none taken =
 -- ---- what is wrong at the places, whatever sound aliases there are
 
 module _ (al done : Members) where
-  abbrev parts : Place → Data → List Flaw
-  parts s v = place_flaws al done s v ++ inner_places al done s v
-
   -- an object with the aliases in it is no field type
   no_type : (s : Place) (v : Data) → leads_on s ≡ true → place_flaws al done s v ≡ []
   unfolding leads_on place_flaws names_alias names_member_type lists_extra_members
@@ -209,28 +206,28 @@ module _ (al done : Members) where
   no_type places.ExtraMembers v above = absurd (true≢false (sym above))
   no_type _ v above = refl
 
-  module _ (s : Place) (n : List ℕ) (f g : Data → Data) (above : leads_on s ≡ true) (alike : (d : Data) → parts (place_under s n) (f d) ≡ parts (place_under s n) (g d)) where
+  module _ (s : Place) (n : List ℕ) (f g : Data → Data) (above : leads_on s ≡ true) (alike : (d : Data) → parts al done (place_under s n) (f d) ≡ parts al done (place_under s n) (g d)) where
     members_alike : (ms : Members) → member_places al done s (with_property n f ms) ≡ member_places al done s (with_property n g ms)
     members_alike no_members = refl
     members_alike (member k d ms) = elim (cases_Bool (bytes_eq k n)) [
-      | inl is ↦ (let here : parts (place_under s k) (f d) ≡ parts (place_under s k) (g d) = subst (λ x. parts (place_under s x) (f d) ≡ parts (place_under s x) (g d)) (sym ((bytes_eq-Decides k n).0 is)) (alike d) in
+      | inl is ↦ (let here : parts al done (place_under s k) (f d) ≡ parts al done (place_under s k) (g d) = subst (λ x. parts al done (place_under s x) (f d) ≡ parts al done (place_under s x) (g d)) (sym ((bytes_eq-Decides k n).0 is)) (alike d) in
           rw is (ap (λ fs. map (within (key k)) fs ++ member_places al done s ms) here))
-      | inr is ↦ rw is (ap (λ fs. map (within (key k)) (parts (place_under s k) d) ++ fs) (members_alike ms))
+      | inr is ↦ rw is (ap (λ fs. map (within (key k)) (parts al done (place_under s k) d) ++ fs) (members_alike ms))
     ]
 
-    alike_under : (v : Data) → parts s (in_property n f v) ≡ parts s (in_property n g v)
+    alike_under : (v : Data) → parts al done s (in_property n f v) ≡ parts al done s (in_property n g v)
     alike_under (object ms) = rw (no_type s (object (with_property n f ms)) above, no_type s (object (with_property n g ms)) above) (ap (λ fs. if leads_on s then fs else []) (members_alike ms))
     alike_under _ = refl
 
   module _ (ms ns : Members) (alike : member_places al done places.FieldTypeAliases ms ≡ member_places al done places.FieldTypeAliases ns) where
-    alike_object : (v : Data) → parts places.FieldTypeAliases (in_object ms v) ≡ parts places.FieldTypeAliases (in_object ns v)
+    alike_object : (v : Data) → parts al done places.FieldTypeAliases (in_object ms v) ≡ parts al done places.FieldTypeAliases (in_object ns v)
     unfolding leads_on place_flaws names_alias names_member_type lists_extra_members
     alike_object (object os) = alike
     alike_object _ = refl
 
     alike_aliases : (t : Data) → inner_places al done places.Root (with_aliases ms t) ≡ inner_places al done places.Root (with_aliases ns t)
     unfolding place_flaws names_alias names_member_type lists_extra_members
-    alike_aliases t = on_way (λ s f g. (v : Data) → parts s (f v) ≡ parts s (g v)) ms ns alike_object (λ s n f g above each. alike_under s n f g above each) t
+    alike_aliases t = on_way (λ s f g. (v : Data) → parts al done s (f v) ≡ parts al done s (g v)) ms ns alike_object (λ s n f g above each. alike_under s n f g above each) t
 
   -- those of a configuration without its aliases are those with them
   pub places_without : (ms : Members) (v : Data) → with_aliases no_members v ≡ v → member_places al done places.FieldTypeAliases ms ≡ [] → inner_places al done places.Root v ≡ inner_places al done places.Root (with_aliases ms v)
@@ -254,7 +251,7 @@ module _ (al now : Members) (n : ℕ) (st : Outcomes) (v : Data) (bare : with_al
   abbrev whole : Data
   whole = with_aliases al v
 
-  abbrev then_laid : ⊤ → Result Data Flaw
+  abbrev pub then_laid : ⊤ → Result Data Flaw
   then_laid a = if_shallow (lay st.done places.Root whole None)
 
   abbrev then_places : ⊤ → Result Data Flaw
@@ -274,13 +271,9 @@ module _ (al now : Members) (n : ℕ) (st : Outcomes) (v : Data) (bare : with_al
         let none = whole_sound al n st apart settled (alias_fault ∙ sound) in
         ap refusal (sym (same_places al now (same_names st.done al now spent) st.done places.Root v ∙ places_without al st.done al v bare none))
 
-    -- the fault of a place
-    pub refused_place : (flaw : Flaw) → refusal (parts now st.done places.Root v) ≡ Err flaw → resolution_after al st whole ≡ Err flaw
-    refused_place flaw e = ap (λ a. a >>= then_places) (alias_fault ∙ sound) ∙ ap (λ a. a >>= then_laid) (place_fault ∙ e)
+    -- what is found at the places decides
+    pub after_places : resolution_after al st whole ≡ (refusal (parts now st.done places.Root v) >>= then_laid)
+    after_places = ap (λ a. a >>= then_places) (alias_fault ∙ sound) ∙ ap (λ a. a >>= then_laid) place_fault
 
     pub aliases_laid : AreLaid st.done al
     aliases_laid = whole_laid al n st apart settled (alias_fault ∙ sound)
-
-    -- or what is laid
-    pub answered : refusal (parts now st.done places.Root v) ≡ Ok tt → resolution_after al st whole ≡ if_shallow (lay st.done places.Root whole None)
-    answered e = ap (λ a. a >>= then_places) (alias_fault ∙ sound) ∙ ap (λ a. a >>= then_laid) (place_fault ∙ e)

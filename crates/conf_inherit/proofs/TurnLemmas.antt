@@ -1,15 +1,15 @@
 -- What the aliases come to does not depend on the order of their turns: where each that is due had its own, the
 -- outcomes are those that the rounds leave.
-use Rattle.std.proofs.Common.{◌≡◌, ◌+◌, ◌<◌, ◌≤◌, ◌⊎◌, inl, inr, ℕ, zero, suc, List, Option, Some, None, is_some, Bool, true, false, not, true≢false, refl, sym, ap, ◌∙◌, subst, arith}
-use Rattle.std.proofs.lemmas.Bool.{not-false, or_from, or_cases, and_parts, cases_Bool, or_parts, or_left, or_right}
+use Rattle.std.proofs.Common.{◌≡◌, ◌<◌, ◌≤◌, ◌⊎◌, inl, inr, ℕ, zero, suc, List, Option, Some, None, is_some, Bool, true, false, not, true≢false, refl, sym, ap, ◌∙◌, subst, arith}
+use Rattle.std.proofs.lemmas.{Bool.{both_ways, not-true, not-false, or_from, or_cases, and_parts, cases_Bool, or_parts, or_left, or_right}, Option.same_Some}
 use Rattle.serde_json.specs.{Data.{Data, null, Members, no_members, member, put}, Events.members_len, Find.get_member}
 use Rattle.serde_json.proofs.Views.{get_member-put}
 use Rattle.conf_table.specs.declared.place.Place.TheVariants as places
 use Rattle.conf_inherit.specs.{Circle.Walks, Named.{all_named, has}, Names.{IsInOrder, NoClash}}
 use Rattle.conf_inherit.specs.Rounds.{Outcomes, has_outcome, is_over, outcome, concluded, step, round, all_over, next_round, rounds, no_outcomes, Reached, is_settled, all_settled}
-use Rattle.conf_inherit.proofs.LayingLemmas.{same_members, value_same, Meets, same, other, meets, get_other, get_same, in_order_put, AllEntries, found_each, entry_found}
+use Rattle.conf_inherit.proofs.LayingLemmas.{same_members, Meets, same, other, meets, get_other, get_same, in_order_put, AllEntries, found_each, entry_found}
 use Rattle.conf_inherit.proofs.{LimitLemmas.{more_named, kept_lay, kept_inner}, FaultLemmas.{named_along, blocked, mentioned, is_put, some_of}}
-use Rattle.conf_inherit.proofs.RoundLemmas.{by_turn, reached_keeps, round_reached, rounds_reached, count, count_all, count_new, SameAt, same_outcome, concluded_other, Agrees, concluded_agrees}
+use Rattle.conf_inherit.proofs.RoundLemmas.{by_turn, reached_keeps, rounds_reached, count, count_all, count_new, SameAt, same_outcome, concluded_other, Agrees, agrees_through, concluded_agrees}
 
 -- the alias has no outcome yet
 abbrev pub IsOpen : Outcomes → List ℕ → Type 0
@@ -29,10 +29,6 @@ none_of (Some x) h = absurd (true≢false h)
 concluded_at : (k : List ℕ) (st : Outcomes) (o : Option Data) → has_outcome st k ≡ false → (get_member k (concluded k st o).done ≡ o) × (get_member k (concluded k st o).refused ≡ mark_of o)
 concluded_at k st None free = (none_of (get_member k st.done) ((or_parts (has st.done k) (has st.refused k) free).0), get_member-put k null st.refused)
 concluded_at k st (Some r) free = (get_member-put k r st.done, none_of (get_member k st.refused) ((or_parts (has st.done k) (has st.refused k) free).1))
-
-not_both : (a : Bool) → not a ≡ true → a ≡ true → ⊥
-not_both true h e = true≢false (sym h)
-not_both false h e = true≢false (sym e)
 
 module _ (al : Members) where
   over_along : (st next : Outcomes) → ((n : List ℕ) → has_outcome st n ≡ true → has_outcome next n ≡ true) → (n : List ℕ) → is_over al st n ≡ true → is_over al next n ≡ true
@@ -56,7 +52,7 @@ module _ (al : Members) where
     still_missing : (m : List ℕ) → is_over al st m ≡ true → has st.done m ≡ false → has next.done m ≡ false
     still_missing m over free = elim (or_cases (has_outcome st m) (not (has al m)) over) [
       | inl e ↦ ap is_some (agrees m e).0 ∙ free
-      | inr e ↦ elim (cases_Bool (has next.done m)) [ inl f ↦ absurd (not_both (has al m) e (own m (or_left (has next.done m) (has next.refused m) f))) | inr f ↦ f ]
+      | inr e ↦ elim (cases_Bool (has next.done m)) [ inl f ↦ absurd (both_ways (has al m) (not-true (has al m) e) (own m (or_left (has next.done m) (has next.refused m) f))) | inr f ↦ f ]
     ]
 
     outcome_same : (w : Data) → all_named (is_over al st) places.FieldType w ≡ true → outcome al next.done w ≡ outcome al st.done w
@@ -110,7 +106,7 @@ module _ (al : Members) where
 
     comes_next : (q : List ℕ) (v : Data) → get_member q al ≡ Some v → has_outcome next q ≡ true → Comes next q v
     comes_next q v is_q h = elim (meets q k) [
-      | same e ↦ (let one : w ≡ v = value_same w v (sym is ∙ ap (λ x. get_member x al) (sym e) ∙ is_q) in
+      | same e ↦ (let one : w ≡ v = same_Some w v (sym is ∙ ap (λ x. get_member x al) (sym e) ∙ is_q) in
           subst (λ x. Comes next x v) (sym e) (subst (Comes next k) one comes_here))
       | other apart ↦ (let kept = concluded_other k st (outcome al st.done w) q apart in
           let before = sound.comes q v is_q (sym (same_outcome st next q kept) ∙ h) in
@@ -121,16 +117,12 @@ module _ (al : Members) where
           })
     ]
 
-    done_next : (o : Option Data) → IsInOrder (concluded k st o).done
-    done_next None = sound.done_order
-    done_next (Some r) = in_order_put k r st.done sound.done_order
-
-    refused_next : (o : Option Data) → IsInOrder (concluded k st o).refused
-    refused_next None = in_order_put k null st.refused sound.refused_order
-    refused_next (Some r) = sound.refused_order
+    ordered_next : (o : Option Data) → IsInOrder (concluded k st o).done × IsInOrder (concluded k st o).refused
+    ordered_next None = (sound.done_order, in_order_put k null st.refused sound.refused_order)
+    ordered_next (Some r) = (in_order_put k r st.done sound.done_order, sound.refused_order)
 
     sound_next : IsSound next
-    sound_next = record { own = own_next; comes = comes_next; done_order = done_next (outcome al st.done w); refused_order = refused_next (outcome al st.done w) }
+    sound_next = let ordered = ordered_next (outcome al st.done w) in record { own = own_next; comes = comes_next; done_order = ordered.0; refused_order = ordered.1 }
 
   first_sound : IsSound no_outcomes
   first_sound = record { own = λ n h. absurd (true≢false (sym h)); comes = λ k w is h. absurd (true≢false (sym h)); done_order = tt; refused_order = tt }
@@ -195,12 +187,12 @@ module _ (al : Members) where
 
   -- ---- the rounds
 
-  kept_step : (k : List ℕ) (w : Data) (st : Outcomes) (n : List ℕ) → has_outcome st n ≡ true → has_outcome (step al k w st) n ≡ true
-  kept_step k w st n h = by_turn al (λ x. has_outcome x n ≡ true) k w st h (λ free due. outcome_kept st (concluded k st (outcome al st.done w)) (concluded_agrees k st (outcome al st.done w) free) n h)
+  pub step_agrees : (k : List ℕ) (w : Data) (st : Outcomes) → Agrees st (step al k w st)
+  step_agrees k w st = by_turn al (Agrees st) k w st (λ n h. (refl, refl)) (λ free due. concluded_agrees k st (outcome al st.done w) free)
 
-  kept_round : (ms : Members) (st : Outcomes) (n : List ℕ) → has_outcome st n ≡ true → has_outcome (round al ms st) n ≡ true
-  kept_round no_members st n h = h
-  kept_round (member k w ms) st n h = kept_round ms (step al k w st) n (kept_step k w st n h)
+  pub round_agrees : (ms : Members) (st : Outcomes) → Agrees st (round al ms st)
+  round_agrees no_members st = λ n h. (refl, refl)
+  round_agrees (member k w ms) st = agrees_through st (step al k w st) (round al ms (step al k w st)) (step_agrees k w st) (round_agrees ms (step al k w st))
 
   concluded_has : (k : List ℕ) (st : Outcomes) (o : Option Data) → has_outcome (concluded k st o) k ≡ true
   concluded_has k st None = or_right (has st.done k) (has (put k null st.refused) k) (is_put k null st.refused)
@@ -208,15 +200,15 @@ module _ (al : Members) where
 
   -- an alias that is due has its outcome after its turn
   due_step : (k : List ℕ) (w : Data) (st : Outcomes) → all_named (is_over al st) places.FieldType w ≡ true → has_outcome (step al k w st) k ≡ true
-  due_step k w st due = elim (cases_Bool (has_outcome st k)) [ inl a ↦ kept_step k w st k a | inr a ↦ rw (a, due) (concluded_has k st (outcome al st.done w)) ]
+  due_step k w st due = elim (cases_Bool (has_outcome st k)) [ inl a ↦ outcome_kept st (step al k w st) (step_agrees k w st) k a | inr a ↦ rw (a, due) (concluded_has k st (outcome al st.done w)) ]
 
   due_round : (ms : Members) (st : Outcomes) (k : List ℕ) (w : Data) → get_member k ms ≡ Some w → all_named (is_over al st) places.FieldType w ≡ true → has_outcome (round al ms st) k ≡ true
   due_round no_members st k w is due = cc
   due_round (member l d ms) st k w is due = elim (meets k l) [
-    | same e ↦ (let one : d ≡ w = value_same d w (sym (get_same k l d ms e) ∙ is) in
+    | same e ↦ (let one : d ≡ w = same_Some d w (sym (get_same k l d ms e) ∙ is) in
         let turn : has_outcome (step al l d st) l ≡ true = due_step l d st (subst (λ x. all_named (is_over al st) places.FieldType x ≡ true) (sym one) due) in
-        kept_round ms (step al l d st) k (ap (has_outcome (step al l d st)) e ∙ turn))
-    | other apart ↦ due_round ms (step al l d st) k w (sym (get_other k l d ms apart) ∙ is) (due_along st (step al l d st) (kept_step l d st) w due)
+        outcome_kept (step al l d st) (round al ms (step al l d st)) (round_agrees ms (step al l d st)) k (ap (has_outcome (step al l d st)) e ∙ turn))
+    | other apart ↦ due_round ms (step al l d st) k w (sym (get_other k l d ms apart) ∙ is) (due_along st (step al l d st) (outcome_kept st (step al l d st) (step_agrees l d st)) w due)
   ]
 
   -- ---- a state that is settled, and one that is not
@@ -241,7 +233,7 @@ module _ (al : Members) where
 
   pub is_settled_state : (st : Outcomes) → all_settled al al st ≡ true → IsSettled st
   is_settled_state st h k w is due =
-      elim (or_cases (has_outcome st k) (not (all_named (is_over al st) places.FieldType w)) (entry_found (λ k w. is_settled al st k w ≡ true) al (each_settled al st h) k w is)) [ inl e ↦ e | inr e ↦ absurd (not_both (all_named (is_over al st) places.FieldType w) e due) ]
+      elim (or_cases (has_outcome st k) (not (all_named (is_over al st) places.FieldType w)) (entry_found (λ k w. is_settled al st k w ≡ true) al (each_settled al st h) k w is)) [ inl e ↦ e | inr e ↦ absurd (both_ways (all_named (is_over al st) places.FieldType w) (not-true _ e) due) ]
 
   -- an alias that is due and has no outcome
   abbrev Waits : Outcomes → Type 0
@@ -260,7 +252,7 @@ module _ (al : Members) where
   pub round_grows : (st : Outcomes) → NoClash al → all_settled al al st ≡ false → count (has_outcome st) al < count (has_outcome (round al al st)) al
   round_grows st apart h =
       let (k, w, is, free, due) = unsettled al st (found_each al apart) h in
-      count_new (has_outcome st) (has_outcome (round al al st)) (kept_round al st) k w al is free (due_round al st k w is due)
+      count_new (has_outcome st) (has_outcome (round al al st)) (outcome_kept st (round al al st) (round_agrees al st)) k w al is free (due_round al st k w is due)
 
   -- where there are as many outcomes as aliases, all is settled
   pub full_settled : (st : Outcomes) → members_len al ≤ count (has_outcome st) al → IsSettled st
@@ -307,23 +299,3 @@ module _ (al : Members) where
   -- what any turns lead to that leave none due is what the rounds leave
   pub turns_are_rounds : {st : Outcomes} → NoClash al → Reached al st → IsSettled st → st ≡ rounds al (members_len al) no_outcomes
   turns_are_rounds apart reached settled = one_state reached settled (rounds_reached al (members_len al) (found_each al apart)) (rounds_settled apart)
-
-  -- ---- the rounds that follow
-
-  -- turns led here, and each of so many rounds gave an outcome
-  pub record Follows (st : Outcomes) (n : ℕ) : Type 0 where
-    pub reached : Reached al st
-    pub few : n ≤ count (has_outcome st) al
-
-  pub follows_round : (st after : Outcomes) (n : ℕ) → NoClash al → Follows st n → all_settled al al st ≡ false → after ≡ round al al st → Follows after (n + 1)
-  follows_round st after n apart before waits went =
-      let more = round_grows st apart waits in
-      let few = before.few in
-      let all : n + 1 ≤ count (has_outcome (round al al st)) al = omega (arith, more, few) in
-      subst (λ x. Follows x (n + 1)) (sym went) (record { reached = round_reached al al st (found_each al apart) before.reached; few = all })
-
-  -- what as many rounds as there are aliases lead to is what the rounds leave
-  pub follows_all : (st : Outcomes) (n : ℕ) → NoClash al → Follows st n → members_len al ≡ n → st ≡ rounds al n no_outcomes
-  follows_all st n apart last len =
-      let full : members_len al ≤ count (has_outcome st) al = subst (λ m. m ≤ count (has_outcome st) al) (sym len) last.few in
-      turns_are_rounds apart last.reached (full_settled st full) ∙ ap (λ m. rounds al m no_outcomes) len

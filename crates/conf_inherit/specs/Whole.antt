@@ -4,10 +4,6 @@ use Rattle.serde_json.specs.{Data.{Data, object, Members, no_members, member}, F
 use Rattle.conf_table.specs.declared.place.Place.TheVariants as places
 use Rattle.conf_inherit.specs.{Laying.lay_members, Resolution.{trace_name, type_name, aliases_name}}
 
--- the way from a configuration to the object of its aliases
-abbrev pub way_to_aliases : List (List ℕ)
-way_to_aliases = trace_name ∷ type_name ∷ aliases_name ∷ []
-
 -- the value that a way of names leads to
 abbrev pub at_way : List (List ℕ) → Option Data → Option Data
 at_way [] found = found
@@ -34,7 +30,7 @@ with_object (k ∷ way) al = in_property k (with_object way al)
 
 -- a configuration with these aliases in the place of its own, if it has any
 unfoldable pub with_aliases : Members → Data → Data
-with_aliases al v = with_object way_to_aliases al v
+with_aliases al v = with_object (trace_name ∷ type_name ∷ aliases_name ∷ []) al v
 
 -- the resolved aliases are the aliases as they are laid
 abbrev pub AreLaid : Members → Members → Type 0

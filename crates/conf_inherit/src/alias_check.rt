@@ -91,9 +91,7 @@ pub(crate) fn check_aliases(
 ) -> Result<(), ConfFault>
     ensures first { Gives (λ _. tt) result (refusal (all_alias_flaws (members_view aliases.now.entries) (outcomes_of outcomes.now) (members_view aliases.now.entries))) }
 {
-    let Ok(over) = names_over(alloc, aliases, outcomes) else {
-        return Err(ConfFault::memory(alloc));
-    };
+    let over = names_over(alloc, aliases, outcomes).map_err(|_| ConfFault::memory(alloc))?;
     for (name, value) in aliases.iter() {
         if let Err(fault) = check_alias(alloc, name.as_str(), value, aliases, outcomes, &over) {
             return Err(fault.in_property(alloc, name.as_str()));

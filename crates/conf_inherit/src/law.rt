@@ -43,6 +43,7 @@ pub fn circle_is_refused()
 
 /// At a place nothing is refused exactly where the type there has no other flaw, and it, and each value of a `$inherit`
 /// in it, is within the limits by itself, as far as all aliases that it names are resolved.
+#[tactic(auto, using(crate::proofs::LimitLemmas::sound_type))]
 pub fn type_fits()
     ensures { (al done : Members) (s : Place) (v : Data) → type_flaws al done s v ≡ []
         ↔ ((flaws al None s false no_members v ≡ [])
@@ -52,6 +53,7 @@ pub fn type_fits()
 
 /// Where a field type is refused for a limit, the type that the path leads to is past the limit of that kind: it itself,
 /// or the value of a `$inherit` in it.
+#[tactic(auto, using(crate::proofs::LimitLemmas::refused_limit))]
 pub fn limit_is_passed()
     ensures { (al done : Members) (v : Data) (flaw : Flaw) → refusal (type_flaws al done Place.FieldType v) ≡ Err flaw
         → (flaw.kind ≡ FaultKind.Limit) ⊎ (flaw.kind ≡ FaultKind.TooDeep)

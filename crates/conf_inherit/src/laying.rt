@@ -1,5 +1,5 @@
 //! Lays a value over the resolved value of what it inherits from.
-ghost use Rattle.std.specs.Prelude.{◌≡◌, string_bytes, IfOk, IfErr, OnOk, MatchOption, Option, Some, option_map};
+ghost use Rattle.std.specs.Prelude.{◌≡◌, ℕ, string_bytes, IfOk, IfErr, OnOk, MatchOption, Option, Some, option_map};
 ghost use Rattle.serde_json.specs.{Data.{Data, object, array, Items, no_items}, View.{view, items_view, members_view}};
 ghost use Rattle.conf_inherit.specs.Laying.{lay, lay_base, lay_members, lay_over, lay_new, lay_new_entry, lay_text, resolved, members_below, items_below};
 ghost use Rattle.conf_inherit.specs.{Names.{join_items, map_items}, Size.{size, items_size, members_size, Within, Leaves, IsDue}};
@@ -62,38 +62,29 @@ pub(crate) fn lay(
     ensures within { IfOk result (λ laid. Within limit (size (view laid))) }
     ensures past { IfErr result (λ stop. IsDue stop limit (size (lay (members_view aliases.now.entries) place (view value.now) (option_map view base)))) }
 {
-    let laid = lay_value(alloc, place, value, base, aliases, limit)?;
-    let _left = take(&laid, limit)?;
-    Ok(laid)
-}
-
-/// The value laid over the base, of parts that are each within the limit.
-#[cycle(laying)]
-fn lay_value(
-    alloc: Global,
-    place: Place,
-    value: &Value,
-    base: Option<Value>,
-    aliases: &Map<String, Value>,
-    limit: Option<usize>,
-) -> Result<Value, Stop>
-    ensures laid { IfOk result (λ laid. view laid
-        ≡ lay (members_view aliases.now.entries) place (view value.now) (option_map view base)) }
-    ensures past { IfErr result (λ stop. IsDue stop limit (size (lay (members_view aliases.now.entries) place (view value.now) (option_map view base)))) }
-{
     match value {
-        Value::Null => Ok(Value::Null),
-        Value::Bool(flag) => Ok(Value::Bool(*flag)),
-        Value::Number(number) => Ok(Value::Number(*number)),
-        Value::String(name) => Ok(lay_name(alloc, aliases, place, name)?),
-        Value::Array(items) => lay_list(alloc, place, items, base, aliases, limit),
+        Value::Null => within(Value::Null, limit),
+        Value::Bool(flag) => within(Value::Bool(*flag), limit),
+        Value::Number(number) => within(Value::Number(*number), limit),
+        Value::String(name) => within(lay_name(alloc, aliases, place, name)?, limit),
+        Value::Array(items) => within(lay_list(alloc, place, items, base, aliases, limit)?, limit),
         Value::Object(members) => {
             let below = lay_inherited(alloc, place, members, aliases)?.or(base);
             let below = properties_below(alloc, below);
             let laid = lay_properties(alloc, place, members, below, aliases, limit)?;
-            Ok(Value::Object(laid))
+            within(Value::Object(laid), limit)
         }
     }
+}
+
+/// A value that was laid, if it is within the limit.
+fn within(laid: Value, limit: Option<usize>) -> Result<Value, Stop>
+    ensures same { IfOk result (λ value. value ≡ laid) }
+    ensures within { IfOk result (λ value. Within limit (size (view value))) }
+    ensures past { IfErr result (λ stop. IsDue stop limit (size (view laid))) }
+{
+    let _left = take(&laid, limit)?;
+    Ok(laid)
 }
 
 /// What an object inherits from, resolved. It is no part of what the object becomes, so the limit is not its own.
@@ -165,8 +156,7 @@ fn lay_list(
 {
     let below = items_under(alloc, base);
     if lists_members(place) {
-        let mut added = Vec::new(alloc);
-        push_new_entries(alloc, items, &below, &mut added, aliases, limit)?;
+        let mut added = lay_new_entries(alloc, items, &below, aliases, limit)?;
         let mut entries = lay_over_entries(alloc, items, below, aliases, limit)?;
         entries.append(&mut added)?;
         return Ok(Value::Array(entries));
@@ -229,30 +219,31 @@ fn lay_over(
     Ok(entry)
 }
 
-/// Adds the entries whose names the base has not.
+/// The entries whose names the base has not.
 #[cycle(laying)]
-fn push_new_entries(
+fn lay_new_entries(
     alloc: Global,
     own: &Vec<Value>,
     base: &Vec<Value>,
-    entries: &mut Vec<Value>,
     aliases: &Map<String, Value>,
     limit: Option<usize>,
-) -> Result<(), Stop>
-    ensures laid { OnOk result (items_view entries.new.items
-        ≡ join_items (items_view entries.old.items) (lay_new (members_view aliases.now.entries) (items_view own.now.items) (items_view base.now.items))) }
-    ensures within { OnOk result (Within limit (items_size (lay_new (members_view aliases.now.entries) (items_view own.now.items) (items_view base.now.items)))) }
+) -> Result<Vec<Value>, Stop>
+    ensures laid { IfOk result (λ v. items_view v.items
+        ≡ lay_new (members_view aliases.now.entries) (items_view own.now.items) (items_view base.now.items)) }
+    ensures within { IfOk result (λ v. Within limit (items_size (items_view v.items))) }
     ensures past { IfErr result (λ stop. IsDue stop limit (items_size (lay_new (members_view aliases.now.entries) (items_view own.now.items) (items_view base.now.items)))) }
 {
     let index = EntryIndex::of(alloc, base)?;
+    let mut entries = Vec::new(alloc);
     let mut room = limit;
     for item in own {
-        room = push_new_item(alloc, item, &index, entries, aliases, room)?;
+        room = push_new_item(alloc, item, &index, &mut entries, aliases, room)?;
     }
-    Ok(())
+    Ok(entries)
 }
 
-/// Adds the entry that an item of the list is, if the base has none of its name. It answers what the limit leaves.
+/// Adds the entry that an item of the list is, if the base has none of its name. It answers what is left of the room
+/// that the entries so far leave of a limit.
 #[cycle(laying)]
 fn push_new_item(
     alloc: Global,
@@ -260,26 +251,27 @@ fn push_new_item(
     base: &EntryIndex,
     entries: &mut Vec<Value>,
     aliases: &Map<String, Value>,
-    limit: Option<usize>,
+    room: Option<usize>,
 ) -> Result<Option<usize>, Stop>
     ensures laid { OnOk result ((rest : Items) → join_items (items_view entries.new.items) rest
         ≡ join_items (items_view entries.old.items) (lay_new_entry (members_view aliases.now.entries) (view item.now) (items_view base.now.entries.now.items) rest)) }
-    ensures left { IfOk result (λ left. Leaves limit (items_size (lay_new_entry (members_view aliases.now.entries) (view item.now) (items_view base.now.entries.now.items) no_items)) left) }
-    ensures past { IfErr result (λ stop. IsDue stop limit (items_size (lay_new_entry (members_view aliases.now.entries) (view item.now) (items_view base.now.entries.now.items) no_items))) }
+    ensures left { IfOk result (λ left. (limit : Option ℕ) → Leaves limit (items_size (items_view entries.old.items)) room → Leaves limit (items_size (items_view entries.new.items)) left) }
+    ensures past { IfErr result (λ stop. (limit : Option ℕ) (rest : Items) → Leaves limit (items_size (items_view entries.old.items)) room
+        → IsDue stop limit (items_size (join_items (items_view entries.old.items) (lay_new_entry (members_view aliases.now.entries) (view item.now) (items_view base.now.entries.now.items) rest)))) }
 {
     let Value::Object(members) = item else {
-        return Ok(limit);
+        return Ok(room);
     };
-    let mut room = limit;
+    let mut left = room;
     for (name, value) in members.iter() {
         if !base.has(name.as_str()) {
-            let laid = lay(alloc, Place::Member, value, None, aliases, room)?;
+            let laid = lay(alloc, Place::Member, value, None, aliases, left)?;
             let entry = single(alloc, name.clone()?, laid)?;
-            room = take(&entry, room)?;
+            left = take(&entry, left)?;
             entries.push(entry)?;
         }
     }
-    Ok(room)
+    Ok(left)
 }
 
 /// The properties that are laid over. A value that is no object has none.

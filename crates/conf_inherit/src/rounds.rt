@@ -215,7 +215,7 @@ fn take_turns(
 /// What becomes of the aliases. Each has its turn behind those that it names, and rounds over all follow until none is
 /// due: those that are left lead into a circle. What the aliases come to is the same in whatever order. In the place of
 /// the body of an alias that is resolved, null is left.
-#[tactic(auto, using(crate::proofs::RoundLemmas::apart_of))]
+#[tactic(auto, using(crate::proofs::LayingLemmas::apart_of))]
 pub(crate) fn settle_aliases(
     alloc: Global,
     aliases: &mut Map<String, Value>,

@@ -1,17 +1,13 @@
-use Rattle.std.proofs.Common.{◌≡◌, ◌+◌, ◌*◌, drop, length, Option, List, ◌++◌}
+use Rattle.std.proofs.Common.{◌≡◌, ◌+◌, ◌*◌, drop, length, Option, ℕ, List, ◌++◌}
 use Rattle.std.specs.Vec.Iter.{into_iter_items, into_iter_len}
-use Rattle.serde_json.specs.{Data.{Data, Items, no_items}, View.{view, items_view, members_view}}
+use Rattle.serde_json.specs.{Data.{Data, Items}, View.{view, items_view, members_view}}
 use Rattle.serde_json.proofs.Views.{Entry}
 use Rattle.conf_inherit.specs.Laying.{lay_base, lay_members, lay_over, lay_over_member, lay_new, lay_new_entry, lay_new_member}
-use Rattle.conf_inherit.specs.{Names.{join_items, map_items}, Size.items_size}
-use Rattle.conf_inherit.proofs.SizeLemmas.{IsCounted}
+use Rattle.conf_inherit.specs.{Names.{join_items, map_items}, Size.{items_size, Leaves}}
 use Rattle.conf_inherit.proofs.laying.+laying.Given as goal
 
 abbrev pub decreases-lay : goal.decreases-lay
-decreases-lay l = 5 * goal.size-lay l + 1
-
-abbrev pub decreases-lay_value : goal.decreases-lay_value
-decreases-lay_value l = 5 * goal.size-lay_value l
+decreases-lay l = 5 * goal.size-lay l
 
 abbrev pub decreases-lay_inherited : goal.decreases-lay_inherited
 decreases-lay_inherited l = 5 * goal.size-lay_inherited l + 2
@@ -28,8 +24,8 @@ decreases-lay_over_entries l = 5 * goal.size-lay_over_entries l + 3
 abbrev pub decreases-lay_over : goal.decreases-lay_over
 decreases-lay_over l = 5 * goal.size-lay_over l + 2
 
-abbrev pub decreases-push_new_entries : goal.decreases-push_new_entries
-decreases-push_new_entries l = 5 * goal.size-push_new_entries l + 2
+abbrev pub decreases-lay_new_entries : goal.decreases-lay_new_entries
+decreases-lay_new_entries l = 5 * goal.size-lay_new_entries l + 2
 
 abbrev pub decreases-push_new_item : goal.decreases-push_new_item
 decreases-push_new_item l = 5 * goal.size-push_new_item l
@@ -49,8 +45,7 @@ abbrev pub invariant-lay_over_entries-loop-entry : goal.invariant-lay_over_entri
 invariant-lay_over_entries-loop-entry l = record {
   laid : join_items (items_view l.entries.items) (map_items (λ b. lay_over (members_view l.aliases.entries) (items_view l.own.items) b) (items_view (into_iter_items l.entry-iterator)))
       ≡ map_items (λ b. lay_over (members_view l.aliases.entries) (items_view l.own.items) b) (items_view l.fn.base.items);
-  left : IsCounted l.fn.limit l.room (items_size (map_items (λ b. lay_over (members_view l.aliases.entries) (items_view l.own.items) b) (items_view l.fn.base.items)))
-      (items_size (map_items (λ b. lay_over (members_view l.aliases.entries) (items_view l.own.items) b) (items_view (into_iter_items l.entry-iterator))));
+  left : Leaves l.fn.limit (items_size (items_view l.entries.items)) l.room;
   count : into_iter_len l.entry-iterator ≡ length (into_iter_items l.entry-iterator);
 }
 
@@ -59,19 +54,17 @@ abbrev pub invariant-lay_over-loop-name : goal.invariant-lay_over-loop-name
 invariant-lay_over-loop-name l =
     lay_over (members_view l.aliases.entries) (items_view l.own.items) (view l.entry) ≡ lay_over_member (members_view l.aliases.entries) (members_view l.name-iterator) (view l.entry) (view l.entry)
 
--- the entries so far, and the new ones of what is left; the room is what the new ones so far leave
-abbrev pub invariant-push_new_entries-loop-item : goal.invariant-push_new_entries-loop-item
-invariant-push_new_entries-loop-item l = record {
+-- the entries so far, and the new ones of what is left; the room is what those so far leave
+abbrev pub invariant-lay_new_entries-loop-item : goal.invariant-lay_new_entries-loop-item
+invariant-lay_new_entries-loop-item l = record {
   laid : join_items (items_view l.entries.items) (lay_new (members_view l.aliases.entries) (items_view (drop l.item-index l.own.items)) (items_view l.base.items))
-      ≡ join_items (items_view l.initial.entries.items) (lay_new (members_view l.aliases.entries) (items_view l.own.items) (items_view l.base.items));
-  left : IsCounted l.fn.limit l.room (items_size (lay_new (members_view l.aliases.entries) (items_view l.own.items) (items_view l.base.items)))
-      (items_size (lay_new (members_view l.aliases.entries) (items_view (drop l.item-index l.own.items)) (items_view l.base.items)));
+      ≡ lay_new (members_view l.aliases.entries) (items_view l.own.items) (items_view l.base.items);
+  left : Leaves l.fn.limit (items_size (items_view l.entries.items)) l.room;
 }
 
 abbrev pub invariant-push_new_item-loop-name : goal.invariant-push_new_item-loop-name
 invariant-push_new_item-loop-name l = record {
   laid : (rest : Items) → join_items (items_view l.entries.items) (lay_new_member (members_view l.aliases.entries) (members_view l.name-iterator) (items_view l.base.entries.now.items) rest)
       ≡ join_items (items_view l.initial.entries.items) (lay_new_entry (members_view l.aliases.entries) (view l.item) (items_view l.base.entries.now.items) rest);
-  left : IsCounted l.fn.limit l.room (items_size (lay_new_entry (members_view l.aliases.entries) (view l.item) (items_view l.base.entries.now.items) no_items))
-      (items_size (lay_new_member (members_view l.aliases.entries) (members_view l.name-iterator) (items_view l.base.entries.now.items) no_items));
+  left : (limit : Option ℕ) → Leaves limit (items_size (items_view l.initial.entries.items)) l.fn.room → Leaves limit (items_size (items_view l.entries.items)) l.left;
 }

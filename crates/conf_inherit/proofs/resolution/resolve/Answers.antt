@@ -15,13 +15,15 @@ taken_resolution t none {al} {v} {n} {st} own taken count settled = resolution_i
 pub resolve_after-requires : goal.resolve_after-requires
 resolve_after-requires c = record { bare = bare_again (view c.args.tree.value) c.new.result.entries (view c.replace_aliases-aliases.new.value) c.new.ensures.empty c.replace_aliases-aliases.ensures.new }
 
-pub returns-clause-first : goal.returns-clause-first
-returns-clause-first c =
-    taken_resolution (view c.args.tree.value) (members_view c.new.result.entries) c.replace_aliases-aliases.ensures.old c.replace_aliases-aliases.ensures.new (members_len-members_view c.replace_aliases-aliases.result.entries) c.in_ok-outcomes.ensures.settled
-    ∙ c.in_ok-value.ensures.first (members_view c.replace_aliases-aliases.result.entries) (btree_map_len c.replace_aliases-aliases.result) c.in_ok-outcomes.ensures.apart c.in_ok-outcomes.ensures.settled c.in_ok-outcomes.ensures.spent
-
-pub returns-clause-resolved : goal.returns-clause-resolved
-returns-clause-resolved c = (resolution_sound (view c.args.tree.value) (view c.in_ok-value.value) (subst NoClash c.replace_aliases-aliases.ensures.old c.in_ok-outcomes.ensures.apart) (returns-clause-first c)).0
+pub returns : goal.returns
+returns c =
+    let first = taken_resolution (view c.args.tree.value) (members_view c.new.result.entries) c.replace_aliases-aliases.ensures.old c.replace_aliases-aliases.ensures.new (members_len-members_view c.replace_aliases-aliases.result.entries) c.in_ok-outcomes.ensures.settled
+    ∙ c.in_ok-value.ensures.first (members_view c.replace_aliases-aliases.result.entries) (btree_map_len c.replace_aliases-aliases.result) c.in_ok-outcomes.ensures.apart c.in_ok-outcomes.ensures.settled c.in_ok-outcomes.ensures.spent in
+    record {
+      resolved = (resolution_sound (view c.args.tree.value) (view c.in_ok-value.value) (subst NoClash c.replace_aliases-aliases.ensures.old c.in_ok-outcomes.ensures.apart) first).0;
+      refused = tt;
+      first = first;
+    }
 
 pub invariant_of-result : goal.invariant_of-result
 invariant_of-result c =
@@ -36,21 +38,16 @@ invariant_of-result c =
       ordered = clean.0;
     }
 
-pub returns-in_err-value-clause-first : goal.returns-in_err-value-clause-first
-returns-in_err-value-clause-first c =
+pub returns-in_err-value : goal.returns-in_err-value
+returns-in_err-value c =
     let p = err_from_is_err_and c.from_residual-in_err-value.result c.from_residual-in_err-value.ensures.1 in
+    let is = taken_resolution (view c.args.tree.value) (members_view c.new.result.entries) c.replace_aliases-aliases.ensures.old c.replace_aliases-aliases.ensures.new (members_len-members_view c.replace_aliases-aliases.result.entries) c.in_ok-outcomes.ensures.settled in
     rw (p.1, p.2)
     (elim (c.in_err-value.ensures.first (members_view c.replace_aliases-aliases.result.entries) (btree_map_len c.replace_aliases-aliases.result) c.in_ok-outcomes.ensures.apart c.in_ok-outcomes.ensures.settled c.in_ok-outcomes.ensures.spent) [
-      | inl memory ↦ inl memory
-      | inr flawed ↦ inr (taken_resolution (view c.args.tree.value) (members_view c.new.result.entries) c.replace_aliases-aliases.ensures.old c.replace_aliases-aliases.ensures.new (members_len-members_view c.replace_aliases-aliases.result.entries) c.in_ok-outcomes.ensures.settled ∙ flawed)
-    ])
-
-pub returns-in_err-value-clause-refused : goal.returns-in_err-value-clause-refused
-returns-in_err-value-clause-refused c =
-    let p = err_from_is_err_and c.from_residual-in_err-value.result c.from_residual-in_err-value.ensures.1 in
-    rw (p.1, p.2)
-    (elim (c.in_err-value.ensures.first (members_view c.replace_aliases-aliases.result.entries) (btree_map_len c.replace_aliases-aliases.result) c.in_ok-outcomes.ensures.apart c.in_ok-outcomes.ensures.settled c.in_ok-outcomes.ensures.spent) [
-      | inl memory ↦ inl memory
-      | inr flawed ↦ inr (refusal_holds (view c.args.tree.value) (flaw_of c.in_err-value.field-0.0) (subst NoClash c.replace_aliases-aliases.ensures.old c.in_ok-outcomes.ensures.apart)
-          (taken_resolution (view c.args.tree.value) (members_view c.new.result.entries) c.replace_aliases-aliases.ensures.old c.replace_aliases-aliases.ensures.new (members_len-members_view c.replace_aliases-aliases.result.entries) c.in_ok-outcomes.ensures.settled ∙ flawed))
+      | inl memory ↦ record { resolved = tt; refused = inl memory; first = inl memory }
+      | inr flawed ↦ record {
+        resolved = tt;
+        refused = inr (refusal_holds (view c.args.tree.value) (flaw_of c.in_err-value.field-0.0) (subst NoClash c.replace_aliases-aliases.ensures.old c.in_ok-outcomes.ensures.apart) (is ∙ flawed));
+        first = inr (is ∙ flawed);
+      }
     ])

@@ -1,8 +1,8 @@
-use Rattle.std.proofs.{Common.{Err, sym, ap, ◌∙◌, subst, inl, inr}, lemmas.Result.err_from_is_err_and}
+use Rattle.std.proofs.Common.{Err, sym, ap, ◌∙◌, subst, inl, inr}
 use Rattle.serde_json.specs.View.{view, members_view}
-use Rattle.conf_tree.specs.{Flaw.flaw_of, Reading.Gives}
+use Rattle.conf_tree.specs.{Flaw.flaw_of, Reading.{◌>>=◌, Gives}}
 use Rattle.conf_inherit.specs.{AliasOutcomes.outcomes_of, Resolution.{in_aliases, from_aliases}}
-use Rattle.conf_inherit.proofs.TakenLemmas.{refused_alias, refused_place, aliases_laid, answered}
+use Rattle.conf_inherit.proofs.{PutLemmas.refuses, TakenLemmas.{refused_alias, aliases_laid, then_laid, after_places}}
 use Rattle.conf_inherit.proofs.resolution.resolve_after.Goals as goal
 
 pub returns-in-Err : goal.returns-in-Err
@@ -22,11 +22,9 @@ returns-in-Err c = record {
 
 pub returns-in_err-check_places : goal.returns-in_err-check_places
 returns-in_err-check_places c = record {
-  first = λ al n apart settled spent. let p = err_from_is_err_and c.from_residual.result c.from_residual.ensures.1 in rw (p.1, p.2)
-      (elim c.in_err-check_places.ensures.first [
-        | inl memory ↦ inl memory
-        | inr flawed ↦ inr (refused_place al (members_view c.args.aliases.now.entries) n (outcomes_of c.args.outcomes) (view c.args.value.now) c.requires.bare apart settled spent (ap from_aliases c.in_default.ensures.first) (flaw_of c.in_err-check_places.field-0.0) flawed)
-      ]);
+  first = λ al n apart settled spent.
+      refuses view c.from_residual.result c.in_err-check_places.field-0.0 _ (then_laid al (members_view c.args.aliases.now.entries) n (outcomes_of c.args.outcomes) (view c.args.value.now) c.requires.bare apart settled spent) _ c.from_residual.ensures.1
+      (after_places al (members_view c.args.aliases.now.entries) n (outcomes_of c.args.outcomes) (view c.args.value.now) c.requires.bare apart settled spent (ap from_aliases c.in_default.ensures.first)) c.in_err-check_places.ensures.first;
 }
 
 pub returns : goal.returns
@@ -36,6 +34,6 @@ returns c = record {
       let st = outcomes_of c.args.outcomes in
       let v = view c.args.value.now in
       let sound = ap from_aliases c.in_default.ensures.first in
-      subst (λ r. Gives view c.lay_all.result r) (sym (answered al now n st v c.requires.bare apart settled spent sound c.in_ok-check_places.ensures.first))
+      subst (λ r. Gives view c.lay_all.result r) (sym (after_places al now n st v c.requires.bare apart settled spent sound ∙ ap (λ x. x >>= then_laid al now n st v c.requires.bare apart settled spent) c.in_ok-check_places.ensures.first))
       (c.lay_all.ensures.first al (aliases_laid al now n st v c.requires.bare apart settled spent sound));
 }

@@ -3,20 +3,19 @@ use Rattle.std.specs.BTreeMap.{btree_map_len}
 use Rattle.serde_json.specs.View.{members_view}
 use Rattle.serde_json.proofs.Views.{members_len-members_view}
 use Rattle.conf_inherit.specs.{AliasOutcomes.outcomes_of, Names.NoClash, Rounds.{all_settled, rounds, no_outcomes}}
-use Rattle.conf_inherit.proofs.{RoundLemmas.apart_of, TurnLemmas.follows_all, SpentLemmas.{first_leaves, rounds_first, rounds_more, rounds_done}}
+use Rattle.conf_inherit.proofs.{LayingLemmas.apart_of, SpentLemmas.{first_leaves, rounds_more, rounds_all, rounds_done}}
 use Rattle.conf_inherit.proofs.rounds.settle_aliases.Goals as goal
 
 pub loop-turn-init : goal.loop-turn-init
 loop-turn-init c =
     let al = members_view c.args.aliases.now.entries in
-    rounds_first al (members_view c.take_turns.new.aliases.entries) (outcomes_of c.take_turns.new.outcomes) (c.in_ok-take_turns.ensures.left al (first_leaves al (outcomes_of c.new-outcomes.result) c.new-outcomes.ensures))
+    record { turns = c.in_ok-take_turns.ensures.left al (first_leaves al (outcomes_of c.new-outcomes.result) c.new-outcomes.ensures); few = omega arith }
 
 pub returns-clause-settled : goal.returns-clause-settled
 returns-clause-settled c =
     let al = members_view c.args.aliases.now.entries in
-    let apart : NoClash al = apart_of c.args.aliases.now.entries c.len-count.ensures.ordered in
     let turns : c.loop-turn._turn ≡ btree_map_len c.args.aliases.now = omega (arith, c.loop-turn-test.false, c.loop-turn.auto._turn-end, c.len-count.ensures.len) in
-    follows_all al (outcomes_of c.loop-turn.outcomes) c.loop-turn._turn apart c.loop-turn.invariant.follows (members_len-members_view c.args.aliases.now.entries ∙ sym turns)
+    rounds_all al (members_view c.take_turns.new.aliases.entries) (outcomes_of c.loop-turn.outcomes) c.loop-turn._turn (apart_of c.args.aliases.now.entries c.len-count.ensures.ordered) c.loop-turn.invariant (members_len-members_view c.args.aliases.now.entries ∙ sym turns)
     ∙ ap (λ n. rounds al n no_outcomes) turns
 
 pub returns-then-all_settled-clause-settled : goal.returns-then-all_settled-clause-settled
