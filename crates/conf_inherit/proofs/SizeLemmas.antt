@@ -97,17 +97,11 @@ next_property done s front back whole e base laid split apart is b =
     }
 
 -- the base's entries with those of their names over them, and the new ones, are parts of the laid list
-list_parts : (done : Members) (s : Place) (es : Items) (base : Option Data) → lists_members s ≡ true
-    → size (lay done s (array es) base) ≡ suc (items_size (map_items (λ b. lay_over done es b) (items_below base)) + items_size (lay_new done es (items_below base)))
-list_parts done s es base is = rw is (ap suc (joined_size (map_items (λ b. lay_over done es b) (items_below base)) (lay_new done es (items_below base))))
-
-pub over_size : (done : Members) (s : Place) (es : Items) (base : Option Data) → lists_members s ≡ true
-    → items_size (map_items (λ b. lay_over done es b) (items_below base)) ≤ size (lay done s (array es) base)
-over_size done s es base is = omega (arith, list_parts done s es base is)
-
-pub new_size : (done : Members) (s : Place) (es : Items) (base : Option Data) → lists_members s ≡ true
-    → items_size (lay_new done es (items_below base)) ≤ size (lay done s (array es) base)
-new_size done s es base is = omega (arith, list_parts done s es base is)
+pub list_parts : (done : Members) (s : Place) (es : Items) (base : Option Data) → lists_members s ≡ true
+    → (items_size (map_items (λ b. lay_over done es b) (items_below base)) ≤ size (lay done s (array es) base)) × (items_size (lay_new done es (items_below base)) ≤ size (lay done s (array es) base))
+list_parts done s es base is =
+    let sum = joined_size (map_items (λ b. lay_over done es b) (items_below base)) (lay_new done es (items_below base)) in
+    rw is (omega (arith, sum), omega (arith, sum))
 
 -- ---- values that are no larger than others: they have no more JSON values, and nest no deeper
 

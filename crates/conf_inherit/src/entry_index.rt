@@ -37,6 +37,7 @@ impl<'a> EntryIndex<'a> {
     }
 
     /// The first entry with a name that a value has, which is the one that is laid over it.
+    #[tactic(auto, using(crate::proofs::EntryLemmas::among_items))]
     pub(crate) fn first_over(&self, value: &Value) -> Option<&Value>
         ensures found { (done : Members) → lay_over done (items_view self.now.entries.now.items) (view value.now)
             ≡ unwrap_or (option_map (λ e. lay_over_entry done e (view value.now) (view value.now)) (option_map (λ e. view e.now) result)) (view value.now) }

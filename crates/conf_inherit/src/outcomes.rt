@@ -53,6 +53,7 @@ impl AliasOutcomes {
     }
 
     /// Notes that the alias is resolved.
+    #[tactic(auto, using(crate::proofs::SizeLemmas::nest_put))]
     pub(crate) fn resolve(&mut self, name: &String, alias: Value) -> Result<(), AllocError>
         ensures { OnOk result (outcomes_of self.new ≡ concluded (string_bytes name.now) (outcomes_of self.old) (Some (view alias))) }
     {

@@ -164,6 +164,7 @@ fn all_settled(aliases: &Map<String, Value>, outcomes: &AliasOutcomes) -> bool
 
 /// Gives an alias that came up its turn, if those that it names had theirs. Once it is resolved its body is dropped,
 /// which is never read again, so that the next ones have its memory.
+#[tactic(auto, using(crate::proofs::SpentLemmas::turn_leaves, crate::proofs::SpentLemmas::spent_leaves))]
 fn take_turn(
     alloc: Global,
     name: &String,
@@ -215,7 +216,7 @@ fn take_turns(
 /// What becomes of the aliases. Each has its turn behind those that it names, and rounds over all follow until none is
 /// due: those that are left lead into a circle. What the aliases come to is the same in whatever order. In the place of
 /// the body of an alias that is resolved, null is left.
-#[tactic(auto, using(crate::proofs::LayingLemmas::apart_of))]
+#[tactic(auto, using(crate::proofs::LayingLemmas::apart_of, crate::proofs::SpentLemmas::first_leaves))]
 pub(crate) fn settle_aliases(
     alloc: Global,
     aliases: &mut Map<String, Value>,

@@ -7,7 +7,7 @@ use Rattle.conf_inherit.specs.Laying.{lay, items_below, has_entry, lay_members, 
 use Rattle.conf_inherit.specs.{Names.{map_items, join_items}, FieldPlaces.{place_under, is_base_name, lists_members}}
 use Rattle.conf_inherit.specs.Size.{size, items_size, Leaves, IsDue}
 use Rattle.conf_inherit.proofs.LayingLemmas.{apart_of, join_none, join_pushed, join_appended, new_member_fresh, lay_entries}
-use Rattle.conf_inherit.proofs.SizeLemmas.{leaves_all, leaves_within, leaves_pushed, due_next, due_more, over_size, new_size, next_property}
+use Rattle.conf_inherit.proofs.SizeLemmas.{leaves_all, leaves_within, leaves_pushed, due_next, due_more, list_parts, next_property}
 use Rattle.conf_table.specs.declared.place.Place.TheVariants as places
 use Rattle.conf_inherit.proofs.laying.+laying.Goals as goal
 
@@ -27,7 +27,7 @@ lay_list-returns-in_err-entries-clause-past t c =
     let p = err_from_is_err_and c.from_residual-in_err-entries.result c.from_residual-in_err-entries.ensures.1 in
     let is : lists_members c.args.place ≡ true = sym c.lists_members.ensures ∙ c.if-lists_members.true in
     rw (p.1, p.2)
-    (due_more c.in_err-entries.field-0.0 c.args.limit _ _ (over_size (members_view c.args.aliases.now.entries) c.args.place (items_view c.args.items.now.items) (option_map view c.args.base) is)
+    (due_more c.in_err-entries.field-0.0 c.args.limit _ _ (list_parts (members_view c.args.aliases.now.entries) c.args.place (items_view c.args.items.now.items) (option_map view c.args.base) is).0
     (rw c.items_under-below.ensures at c.in_err-entries.ensures.past))
 
 pub lay_list-returns-in_err-added-clause-past : goal.lay_list-returns-in_err-added-clause-past
@@ -35,7 +35,7 @@ lay_list-returns-in_err-added-clause-past t c =
     let p = err_from_is_err_and c.from_residual.result c.from_residual.ensures.1 in
     let is : lists_members c.args.place ≡ true = sym c.lists_members.ensures ∙ c.if-lists_members.true in
     rw (p.1, p.2)
-    (due_more c.in_err-added.field-0.0 c.args.limit _ _ (new_size (members_view c.args.aliases.now.entries) c.args.place (items_view c.args.items.now.items) (option_map view c.args.base) is)
+    (due_more c.in_err-added.field-0.0 c.args.limit _ _ (list_parts (members_view c.args.aliases.now.entries) c.args.place (items_view c.args.items.now.items) (option_map view c.args.base) is).1
     (rw c.items_under-below.ensures at c.in_err-added.ensures.past))
 
 pub lay_list-returns-then-lists_members-clause-laid : goal.lay_list-returns-then-lists_members-clause-laid

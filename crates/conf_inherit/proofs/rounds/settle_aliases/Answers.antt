@@ -3,13 +3,8 @@ use Rattle.std.specs.BTreeMap.{btree_map_len}
 use Rattle.serde_json.specs.View.{members_view}
 use Rattle.serde_json.proofs.Views.{members_len-members_view}
 use Rattle.conf_inherit.specs.{AliasOutcomes.outcomes_of, Names.NoClash, Rounds.{all_settled, rounds, no_outcomes}}
-use Rattle.conf_inherit.proofs.{LayingLemmas.apart_of, SpentLemmas.{first_leaves, rounds_more, rounds_all, rounds_done}}
+use Rattle.conf_inherit.proofs.{LayingLemmas.apart_of, SpentLemmas.{rounds_more, rounds_all, rounds_done}}
 use Rattle.conf_inherit.proofs.rounds.settle_aliases.Goals as goal
-
-pub loop-turn-init : goal.loop-turn-init
-loop-turn-init c =
-    let al = members_view c.args.aliases.now.entries in
-    record { turns = c.in_ok-take_turns.ensures.left al (first_leaves al (outcomes_of c.new-outcomes.result) c.new-outcomes.ensures); few = omega arith }
 
 pub returns-clause-settled : goal.returns-clause-settled
 returns-clause-settled c =

@@ -1,7 +1,7 @@
 use Rattle.std.proofs.Common.{Some, None, sym, ◌∙◌, subst}
 use Rattle.std.specs.Slice.{IsItemAt}
 use Rattle.serde_json.specs.View.{view, items_view}
-use Rattle.conf_inherit.proofs.EntryLemmas.{found_by_index, found_first, among_items}
+use Rattle.conf_inherit.proofs.EntryLemmas.{found_by_index, found_first}
 use Rattle.conf_inherit.proofs.entry_index.EntryIndex.first_over.Goals as goal
 
 pub returns-in-Some-clause-found : goal.returns-in-Some-clause-found
@@ -16,8 +16,3 @@ pub returns-in-None-clause-found : goal.returns-in-None-clause-found
 returns-in-None-clause-found c =
     let index = c.args.self.now in
     found_by_index (items_view index.entries.now.items) (view c.args.value.now) index.places None index.placed (sym c.lowest_place.ensures ∙ c.in-None.is)
-
-pub returns-in-Some-clause-among : goal.returns-in-Some-clause-among
-returns-in-Some-clause-among c =
-    let vs = c.args.self.now.entries.now.items in
-    among_items vs c.in-Some.place c.get.result (subst (λ vs. IsItemAt vs c.in-Some.place c.get.result) c.as_slice.ensures.value c.get.ensures.lookup)
