@@ -1,19 +1,23 @@
--- A fault where something else is expected.
-use Rattle.std.proofs.Common.{◌≡◌, ℕ, List, [], slice_get, Result, Ok, Err, IfErr, ◌≤◌, length, refl, inl, sym, subst}
+-- A fault where something else is expected, and where the sizes of packets are missed.
+use Rattle.std.proofs.Common.{◌≡◌, ℕ, ◌<◌, List, [], Option, slice_get, Result, Ok, Err, IfErr, ◌≤◌, length, refl, inl, sym, subst, arith}
 use Rattle.std.proofs.lemmas.List.{append-nil}
 use Rattle.tsdl_grammar.specs.declared.atom.Atom.{Atom}
+use Rattle.tsdl_grammar.specs.declared.tree.Block.{Block}
+use Rattle.tsdl_grammar.specs.declared.fault.MetaFaultKind.{MetaFaultKind}
 use Rattle.tsdl_grammar.specs.declared.fault.MetaFaultKind.TheVariants as faults
 use Rattle.tsdl_flaw.specs.declared.flaw.Flaw.{Flaw}
 use Rattle.tsdl_flaw.specs.declared.flaw.Flaw.TheVariants as flaws
 use Rattle.tsdl_flaw.specs.declared.flaw.Stop.{Stop}
 use Rattle.tsdl_flaw.specs.declared.flaw.Stop.TheVariants as stops
+use Rattle.tsdl_grammar.specs.Spelling.{text_toks}
 use Rattle.tsdl_flaw.specs.Lengths.{most}
 use Rattle.tsdl_flaw.specs.TextStops.{IsTextFault, StopsText}
 use Rattle.tsdl_flaw.specs.Flaws.{FaultStands}
 use Rattle.tsdl_flaw.specs.Stopping.{kind_of}
 use Rattle.tsdl_flaw.proofs.Texts.{word_stands}
 use Rattle.tsdl_flaw.proofs.TextStops.{text_stands}
-use Rattle.tsdl_reader.specs.Reading.{IsFlawOf, IsFaultOf}
+use Rattle.tsdl_meaning.specs.PacketSizes.{IfSizesMissed, MissesSizes}
+use Rattle.tsdl_reader.specs.Reading.{IsFlawOf, IsFaultOf, LackSizes}
 
 -- the flaw of what stands at a place
 pub placed : (text : List Atom) (at : ℕ) (flaw : Flaw) → IsFlawOf (slice_get text at) flaw → FaultStands text at (kind_of flaw)
@@ -33,3 +37,26 @@ pub whole_stands : {A : Type 0} (text whole : List Atom) (answer : Result A Stop
 whole_stands text whole (Ok x) same bound h = tt
 whole_stands text whole (Err (stops.Fault fault)) same bound h = text_stands text fault (subst (λ (l : List Atom). length l ≤ most → IsTextFault l fault) same h bound)
 whole_stands text whole (Err stops.NoMemory) same bound h = tt
+
+-- where something else is expected, no sizes are missed
+pub misses_none : (found : Option Atom) (flaw : Flaw) → IsFlawOf found flaw → kind_of flaw ≡ faults.NoPacketSize → ⊥
+misses_none found (flaws.Syntax expected) h e = absurd cc
+misses_none found flaws.NamedType h e = absurd cc
+misses_none found flaws.LabelWithoutValue h e = absurd cc
+misses_none found (flaws.NoStream orphan) h e = absurd h
+misses_none found (flaws.Unsupported name remedy) h e = absurd cc
+misses_none found flaws.Duplicate h e = absurd h
+misses_none found flaws.NoPacketSize h e = absurd h
+misses_none found flaws.BadLength h e = absurd h
+misses_none found (flaws.Limit expected) h e = absurd h
+
+-- nor are they before the end of the text
+pub misses_behind : (text : List Atom) (at : ℕ) (kind : MetaFaultKind) → at < length text → FaultStands text at kind → kind ≡ faults.NoPacketSize → ⊥
+misses_behind text at kind within stands e = let last : at ≡ length text = subst (λ k. FaultStands text at k) e stands in absurd (omega arith)
+
+-- where blocks miss sizes, the atoms of the text that they spell do
+pub misses : {A : Type 0} (text : List Atom) (bs : List Block) (answer : Result A Stop) → text_toks bs ≡ text → length text ≤ most → IfErr answer (MissesSizes bs)
+    → IfErr answer (λ stop. IfSizesMissed stop (LackSizes text))
+misses text bs (Ok x) same bound h = tt
+misses text bs (Err (stops.Fault fault)) same bound h = λ e. (bs, sym same, h (subst (λ (l : List Atom). length l ≤ most) (sym same) bound) e)
+misses text bs (Err stops.NoMemory) same bound h = tt

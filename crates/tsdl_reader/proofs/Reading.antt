@@ -1,5 +1,5 @@
 -- A text has one list of tokens, of atoms and of blocks, so it denotes at most one metadata.
-use Rattle.std.proofs.Common.{◌≡◌, ℕ, List, length, Option, slice_get, sym, ap, subst, ◌∙◌, arith}
+use Rattle.std.proofs.Common.{◌≡◌, ℕ, List, length, Option, slice_get, refl, sym, ap, subst, ◌∙◌, arith}
 use Rattle.std.proofs.lemmas.Option.{slice_get_past}
 use Rattle.std.proofs.lemmas.List.{length-map}
 use Rattle.std.specs.List.{list_all}
@@ -15,7 +15,7 @@ use Rattle.tsdl_grammar.specs.Fronts.{atoms_in}
 use Rattle.tsdl_grammar.proofs.AtomsAhead.{tokens_mean}
 use Rattle.tsdl_grammar.specs.Denotes.{is_read, text_meta, Denotes}
 use Rattle.tsdl_flaw.specs.Flaws.{FaultStands}
-use Rattle.tsdl_reader.specs.Reading.{Means, HasAtoms, IsPlaced, IsRefused, FaultHolds}
+use Rattle.tsdl_reader.specs.Reading.{Means, HasAtoms, LackSizes, IsPlaced, IsRefused, IsWithoutSizes, FaultHolds}
 use Rattle.tsdl_parser.proofs.Steps.{some_is}
 use Rattle.tsdl_parser.proofs.Blocks.{one_reading}
 
@@ -42,21 +42,25 @@ one_meaning meant m n a b =
 pub one_metadata : OneListOfTokens → (text : List ℕ) (ts : List Token) (meant : List Atom) (m n : Metadata) → HasAtoms text ts meant → Means meant m → Denotes text n → m ≡ n
 one_metadata one text ts meant m n has a d = one_meaning meant m n a (means one text ts meant n has d)
 
+-- the sizes that the atoms of a text lack are lacking in the text
+pub without_sizes : (text : List ℕ) (ts : List Token) (meant : List Atom) → HasAtoms text ts meant → LackSizes meant → IsWithoutSizes text
+without_sizes text ts meant has lack = record { tokens = ts; split = has.split; lack = subst LackSizes has.atoms lack }
+
 -- behind the last token the text ends
 behind_all : (ts : List Token) (index end : ℕ) → index ≡ length ts → start_of (slice_get ts index) end ≡ end
 behind_all ts index end e = ap (λ (t : Option Token). start_of t end) (slice_get_past ts index (omega arith))
 
 -- what a fault of the grammar or of the meaning says, by its kind
-pub holds : (text : List ℕ) (at : ℕ) (kind : MetaFaultKind) → IsRefused text at kind → FaultHolds text kind at
-holds text at faults.NoMagicLine r = absurd r.fault
-holds text at faults.Token r = absurd r.fault
-holds text at faults.OutOfMemory r = absurd r.fault
-holds text at faults.Syntax r = r
-holds text at (faults.Unsupported name) r = r
-holds text at faults.Duplicate r = r
-holds text at faults.NoPacketSize r = (r, r.place ∙ behind_all r.tokens r.index (length text) (r.fault ∙ length-map r.tokens (atom_of text)))
-holds text at faults.BadLength r = r
-holds text at faults.Limit r = r
+pub holds : (text : List ℕ) (at : ℕ) (kind : MetaFaultKind) → IsRefused text at kind → (kind ≡ faults.NoPacketSize → IsWithoutSizes text) → FaultHolds text kind at
+holds text at faults.NoMagicLine r sizes = absurd r.fault
+holds text at faults.Token r sizes = absurd r.fault
+holds text at faults.OutOfMemory r sizes = absurd r.fault
+holds text at faults.Syntax r sizes = r
+holds text at (faults.Unsupported name) r sizes = r
+holds text at faults.Duplicate r sizes = r
+holds text at faults.NoPacketSize r sizes = (r, r.place ∙ behind_all r.tokens r.index (length text) (r.fault ∙ length-map r.tokens (atom_of text)), sizes refl)
+holds text at faults.BadLength r sizes = r
+holds text at faults.Limit r sizes = r
 
 -- a text whose atoms mean nothing denotes nothing
 pub refused : OneListOfTokens → (text : List ℕ) (ts : List Token) (meant : List Atom) (fault : MetaFault) → HasAtoms text ts meant → ((m : Metadata) → Means meant m → ⊥)

@@ -19,6 +19,7 @@ use Rattle.tsdl_flaw.specs.declared.flaw.Stop.{Stop}
 use Rattle.tsdl_flaw.specs.declared.flaw.Stop.TheVariants as stops
 use Rattle.tsdl_flaw.specs.Flaws.{FaultStands}
 use Rattle.tsdl_flaw.specs.Stopping.{kind_of}
+use Rattle.tsdl_meaning.specs.PacketSizes.{LacksSizes}
 
 -- the atoms of a text mean the metadata: the part of `Denotes` behind the tokens
 abbrev pub Means : List Atom → Metadata → Type 0
@@ -44,7 +45,11 @@ GivesKind (Err fault) kind = (fault.kind ≡ kind) ⊎ (fault.kind ≡ faults.Ou
 abbrev pub MeansNothing : List Atom → Type 0
 MeansNothing meant = (m : Metadata) → Means meant m → ⊥
 
--- a fault stands among the atoms of a text
+-- these atoms spell blocks, and a stream block of them lacks one of the sizes of its packets
+abbrev pub LackSizes : List Atom → Type 0
+LackSizes meant = (bs : List Block) × (meant ≡ text_toks bs) × LacksSizes bs
+
+-- a fault stands among the atoms of a text, or at their end
 abbrev pub IsFaultOf : List Atom → Stop → Type 0
 IsFaultOf meant (stops.Fault fault) = FaultStands meant fault.at (kind_of fault.flaw)
 IsFaultOf meant stops.NoMemory = Unit {0}
@@ -75,6 +80,12 @@ pub record IsRefused (text : List ℕ) (at : ℕ) (kind : MetaFaultKind) : Type 
   pub fault : FaultStands (atoms_of text tokens) index kind
   pub nothing : (m : Metadata) → Denotes text m → ⊥
 
+-- the text's tokens spell blocks, and a stream block of them lacks one of the sizes of its packets (CTF 1.8.3, section 5.2)
+pub record IsWithoutSizes (text : List ℕ) : Type 0 where
+  pub tokens : List Token
+  pub split : Tokenizes text tokens
+  pub lack : LackSizes (atoms_of text tokens)
+
 -- what a fault says of the text, by its kind and place: the sizes of a stream's packets are missed where the text ends
 abbrev pub FaultHolds : List ℕ → MetaFaultKind → ℕ → Type 0
 FaultHolds text faults.NoMagicLine at = (at ≡ 0) × (HasMagicLine text → ⊥)
@@ -82,7 +93,7 @@ FaultHolds text faults.Token at = HasMagicLine text × StopsAt text at
 FaultHolds text faults.Syntax at = IsRefused text at faults.Syntax
 FaultHolds text (faults.Unsupported name) at = IsRefused text at (faults.Unsupported name)
 FaultHolds text faults.Duplicate at = IsRefused text at faults.Duplicate
-FaultHolds text faults.NoPacketSize at = IsRefused text at faults.NoPacketSize × (at ≡ length text)
+FaultHolds text faults.NoPacketSize at = IsRefused text at faults.NoPacketSize × (at ≡ length text) × IsWithoutSizes text
 FaultHolds text faults.BadLength at = IsRefused text at faults.BadLength
 FaultHolds text faults.Limit at = IsRefused text at faults.Limit
 FaultHolds text faults.OutOfMemory at = Unit {0}

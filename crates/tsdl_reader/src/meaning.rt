@@ -1,12 +1,13 @@
 //! What the atoms of a text mean, or their first fault.
 
-ghost use Rattle.std.specs.Prelude.{◌≤◌, length, IfOk, IfErr, IfSome};
+ghost use Rattle.std.specs.Prelude.{◌<◌, ◌≤◌, length, IfOk, IfErr, IfSome};
 ghost use Rattle.ctf_types.specs.declared.Metadata.{Metadata};
 ghost use Rattle.tsdl_grammar.specs.Fronts.{atoms_in};
 ghost use Rattle.tsdl_flaw.specs.Stopping.{kind_of};
 ghost use Rattle.tsdl_flaw.specs.Flaws.{FaultStands};
 ghost use Rattle.tsdl_flaw.specs.TextStops.{IfFault};
-ghost use Rattle.tsdl_reader.specs.Reading.{Means, IsFaultOf, MeansNothing};
+ghost use Rattle.tsdl_meaning.specs.PacketSizes.{IfSizesMissed};
+ghost use Rattle.tsdl_reader.specs.Reading.{Means, IsFaultOf, MeansNothing, LackSizes};
 
 use crate::unexpected::unexpected;
 use ctf_types::Metadata;
@@ -21,6 +22,7 @@ pub(crate) fn meaning(alloc: Global, text: &[u8]) -> Result<Metadata, Stop>
     ensures found { IfOk result (Means (atoms_in text.now)) }
     ensures none { IfErr result (λ stop. IfFault stop (MeansNothing (atoms_in text.now))) }
     ensures fault { IfErr result (IsFaultOf (atoms_in text.now)) }
+    ensures sizes { IfErr result (λ stop. IfSizesMissed stop (LackSizes (atoms_in text.now))) }
 {
     blocks_are_unique();
     let all = atom_count(text);
@@ -51,7 +53,8 @@ fn first_fault(
     rest: &[Missing],
 ) -> Stop
     requires { kept ≤ length (atoms_in text.now) }
-    ensures { IsFaultOf (atoms_in text.now) result }
+    ensures fault { IsFaultOf (atoms_in text.now) result }
+    ensures sizes { IfSizesMissed result ⊥ }
 {
     let unfit = unexpected(alloc, text, at, expected);
     match flaw_before(alloc, text, kept, rest) {
@@ -69,7 +72,7 @@ fn flaw_before(
     rest: &[Missing],
 ) -> Result<Option<Fault>, AllocError>
     requires { kept ≤ length (atoms_in text.now) }
-    ensures { IfOk result (λ found. IfSome found (λ fault. FaultStands (atoms_in text.now) fault.at (kind_of fault.flaw))) }
+    ensures { IfOk result (λ found. IfSome found (λ fault. (fault.at < length (atoms_in text.now)) × FaultStands (atoms_in text.now) fault.at (kind_of fault.flaw))) }
 {
     let survey = Survey::of(alloc, text)?;
     let more = spelling(alloc, rest)?;

@@ -3,6 +3,7 @@
 ghost use Rattle.std.specs.Prelude.{◌≡◌, IfOk, Some, slice_get};
 ghost use Rattle.tsdl_grammar.specs.declared.atom.Atom.TheVariants as atoms;
 ghost use Rattle.tsdl_grammar.specs.Fronts.{atoms_in};
+ghost use Rattle.tsdl_meaning.specs.PacketSizes.{IfSizesMissed};
 ghost use Rattle.tsdl_reader.specs.Reading.{IsFaultOf, IsFlawOf};
 
 use ctf_types::is_unused_keyword;
@@ -13,7 +14,8 @@ use tsdl_parser::Expected;
 
 /// The fault of a text at an atom where something else is expected.
 pub(crate) fn unexpected(alloc: Global, text: &[u8], at: usize, expected: Expected) -> Stop
-    ensures { IsFaultOf (atoms_in text.now) result }
+    ensures fault { IsFaultOf (atoms_in text.now) result }
+    ensures sizes { IfSizesMissed result ⊥ }
 {
     let end = at.saturating_add(1);
     match flaw_at(alloc, text, at, expected) {

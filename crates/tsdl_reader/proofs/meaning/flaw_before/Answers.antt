@@ -17,4 +17,4 @@ returns-in-Fault c =
     let bound : length (text_toks c.deref-2.result.now) ≤ most =
     let v = c.in_ok-more.more in let k = v.ok in let s = v.small in let l = c.deref.ensures.len in
     omega (arith, ap length whole, length-append (take c.args.kept meant) more, length-take-le c.args.kept meant c.requires, few c.args.text.now, few c.deref.result.now, c.requires) in
-    fault_stands meant more (text_toks c.deref-2.result.now) c.args.kept c.in-Fault.fault whole c.requires c.if-first_flaw-kept-2.true (inl c.if-first_flaw-kept.true) (c.in-Fault.ensures.stops bound)
+    (omega (arith, c.if-first_flaw-kept.true, c.requires), fault_stands meant more (text_toks c.deref-2.result.now) c.args.kept c.in-Fault.fault whole c.requires c.if-first_flaw-kept-2.true (inl c.if-first_flaw-kept.true) (c.in-Fault.ensures.stops bound))
