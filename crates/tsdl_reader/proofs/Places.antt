@@ -1,5 +1,5 @@
 -- A fault where something else is expected, and where the sizes of packets are missed.
-use Rattle.std.proofs.Common.{◌≡◌, ℕ, ◌<◌, List, [], Option, slice_get, Result, Ok, Err, IfErr, ◌≤◌, length, refl, inl, sym, subst, arith}
+use Rattle.std.proofs.Common.{◌≡◌, ℕ, List, [], Option, slice_get, Result, Ok, Err, IfErr, ◌≤◌, length, refl, inl, sym, subst}
 use Rattle.std.proofs.lemmas.List.{append-nil}
 use Rattle.tsdl_grammar.specs.declared.atom.Atom.{Atom}
 use Rattle.tsdl_grammar.specs.declared.tree.Block.{Block}
@@ -49,10 +49,6 @@ misses_none found flaws.Duplicate h e = absurd h
 misses_none found flaws.NoPacketSize h e = absurd h
 misses_none found flaws.BadLength h e = absurd h
 misses_none found (flaws.Limit expected) h e = absurd h
-
--- nor are they before the end of the text
-pub misses_behind : (text : List Atom) (at : ℕ) (kind : MetaFaultKind) → at < length text → FaultStands text at kind → kind ≡ faults.NoPacketSize → ⊥
-misses_behind text at kind within stands e = let last : at ≡ length text = subst (λ k. FaultStands text at k) e stands in absurd (omega arith)
 
 -- where blocks miss sizes, the atoms of the text that they spell do
 pub misses : {A : Type 0} (text : List Atom) (bs : List Block) (answer : Result A Stop) → text_toks bs ≡ text → length text ≤ most → IfErr answer (MissesSizes bs)
