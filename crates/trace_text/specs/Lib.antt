@@ -12,6 +12,7 @@ pub mod PrintedValues
 pub mod ReadingFaults
 pub mod Script
 pub mod ScriptEntries
+pub mod ScriptFaultWords
 pub mod ScriptFaults
 pub mod ScriptObjects
 pub mod ScriptReading
