@@ -114,22 +114,21 @@ front_length (y ∷ xs) zero x at = refl
 front_length (y ∷ xs) (suc i) x at = ap suc (front_length xs i x at)
 
 pub bad_one : (c : Config) (bytes : ℕ) (ss : List Begun) (i : ℕ) (s : Begun) (fault : AddFault) → AreRight c bytes (take i ss) → slice_get ss i ≡ Some s
-    → fault_of c bytes s ≡ Some fault → IsBadStream c bytes ss i
+    → fault_of c bytes s ≡ Some fault → IsBadStream c bytes ss i fault
 bad_one c bytes ss i s fault right at bad = record {
   before = take i ss;
   stream = s;
   behind = drop (suc i) ss;
   there = parted ss i s at;
   place = front_length ss i s at;
-  fault = fault;
   none_before = right;
   first = bad;
 }
 
 -- it is one of the script's
-pub bad_there : (c : Config) (bytes : ℕ) (ss : List ScriptStream) (ps : List (Option ResumePoint)) (number : ℕ) → length ps ≡ length ss
-    → IsBadStream c bytes (zip ss ps) number → number < length ss
-bad_there c bytes ss ps number e bad =
+pub bad_there : (c : Config) (bytes : ℕ) (ss : List ScriptStream) (ps : List (Option ResumePoint)) (number : ℕ) (fault : AddFault) → length ps ≡ length ss
+    → IsBadStream c bytes (zip ss ps) number fault → number < length ss
+bad_there c bytes ss ps number fault e bad =
     let parts = ap (λ (l : List Begun). length l) bad.there ∙ length-append bad.before (bad.stream ∷ bad.behind) in
     let place = bad.place in
     let long = length_begun ss ps e in

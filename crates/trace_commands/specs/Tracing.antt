@@ -22,6 +22,7 @@ use Rattle.trace_stack.specs.declared.names.NameFault.{NameFault}
 use Rattle.trace_stack.specs.declared.worker.ThreadsFault.{ThreadsFault}
 use Rattle.trace_stack.specs.declared.worker.ThreadsRun.{ThreadsRun}
 use Rattle.trace_stack.specs.declared.worker.Worker.{Worker}
+use Rattle.trace_stack.specs.FaultWords.{add_words, name_words, threads_words}
 use Rattle.trace_stack.specs.Workers.{ThreadsRan}
 use Rattle.trace_text.specs.declared.script.Script.{Script}
 use Rattle.trace_text.specs.declared.script.ScriptStream.{ScriptStream}
@@ -44,7 +45,7 @@ use Rattle.trace_commands.specs.Reading.{IsPathIn}
 use Rattle.trace_commands.specs.Resuming.{HasBroken, HasMetadata, HasOtherMetadata, HasPoint}
 use Rattle.trace_commands.specs.ScriptLines.{IsBadScript, IsStreamLine}
 use Rattle.trace_commands.specs.Settling.{SaysSettling}
-use Rattle.trace_commands.specs.FaultLines.{IsFaultLine, fault_line}
+use Rattle.trace_commands.specs.FaultLines.{fault_line}
 use Rattle.trace_commands.specs.Telling.{IsToldWith, WasGiven}
 use Rattle.trace_commands.specs.Workers.{AreWorkers, IsSharedBy, stream_lines}
 
@@ -57,8 +58,8 @@ IsTracePath t path = (path ≡ t.config.now) ⊎ (path ≡ t.script.now) ⊎ IsP
 
 -- ---- refusals: nothing is printed, one line says the fault, and the status is 1
 
-abbrev pub IsSaidOfStream : List ℕ → Script → ℕ → List ℕ → List ℕ → ℕ → Type 0
-IsSaidOfStream file s number output errors status = (output ≡ []) × IsStreamLine file s number errors × (status ≡ 1)
+abbrev pub IsSaidOfStream : List ℕ → Script → ℕ → Option (List ℕ) → List ℕ → List ℕ → ℕ → Type 0
+IsSaidOfStream file s number words output errors status = (output ≡ []) × IsStreamLine file s number words errors × (status ≡ 1)
 
 abbrev pub stream_names : Script → List (List ℕ)
 stream_names s = map (λ (x : ScriptStream). x.name) s.streams
@@ -67,19 +68,17 @@ stream_names s = map (λ (x : ScriptStream). x.name) s.streams
 abbrev pub AreFree : Script → Type 0
 AreFree s = first_refused [] 0 (stream_names s) ≡ None
 
--- the stream of this number is the first that a session refuses by its name
-pub record IsBadName (s : Script) (number : ℕ) : Type 0 where
-  pub fault : NameFault
-  pub first : first_refused [] 0 (stream_names s) ≡ Some (number, fault)
+-- the stream of this number is the first that a session refuses by its name, for this
+abbrev pub IsBadName : Script → ℕ → NameFault → Type 0
+IsBadName s number fault = first_refused [] 0 (stream_names s) ≡ Some (number, fault)
 
--- the stream of this number is the first that is not begun, by its type, its extra members, the size of packets, or earlier packets of another type
-pub record IsBadStream (c : Config) (bytes : ℕ) (streams : List Begun) (number : ℕ) : Type 0 where
+-- the stream of this number is the first that is not begun, for this: its type, its extra members, the size of packets, or earlier packets of another type
+pub record IsBadStream (c : Config) (bytes : ℕ) (streams : List Begun) (number : ℕ) (fault : AddFault) : Type 0 where
   pub before : List Begun
   pub stream : Begun
   pub behind : List Begun
   pub there : streams ≡ before ++ stream ∷ behind
   pub place : length before ≡ number
-  pub fault : AddFault
   pub none_before : AreRight c bytes before
   pub first : fault_of c bytes stream ≡ Some fault
 
@@ -93,13 +92,13 @@ Refuses c bytes place s r = IsRefusal place (fault_of c bytes s) r
 
 -- one of these streams, the first of them, has a fault, or memory was wanting
 abbrev pub RefusesOne : Config → ℕ → List Begun → NotRecorded → Type 0
-RefusesOne c bytes streams (Stream number fault) = IsBadStream c bytes streams number
+RefusesOne c bytes streams (Stream number fault) = IsBadStream c bytes streams number fault
 RefusesOne c bytes streams OutOfMemory = Unit {0}
 
 -- a line of the script speaks of the first stream that is not begun
 abbrev pub TellsBadStream : TraceCommand → Config → Script → List (Option ResumePoint) → List ℕ → List ℕ → ℕ → Type 0
 TellsBadStream t c s points output errors status =
-    (number : ℕ) × IsBadStream c t.packet_bytes (begun s points) number × IsSaidOfStream t.script.now s number output errors status
+    (number : ℕ) × (fault : AddFault) × IsBadStream c t.packet_bytes (begun s points) number fault × IsSaidOfStream t.script.now s number (add_words fault) output errors status
 
 -- that the clock has not all numbers that the workers may read
 abbrev pub no_room_line : List ℕ → List ℕ
@@ -116,7 +115,7 @@ EndsTold folder streams ends errors status = (line : Option (List ℕ)) × SaysS
 abbrev pub SaysRun : List ℕ → List ScriptStream → Option ThreadsFault → List FinishAnswer → Option (List ℕ) → Type 0
 SaysRun folder streams None ends line = SaysSettling folder streams ends line
 SaysRun folder streams (Some fault) ends None = ⊥
-SaysRun folder streams (Some fault) ends (Some line) = IsFaultLine folder line
+SaysRun folder streams (Some fault) ends (Some line) = line ≡ fault_line folder (threads_words fault)
 
 abbrev pub RunTold : {W : Type 0} → List ℕ → List ScriptStream → ThreadsRun W → List ℕ → ℕ → Type 0
 RunTold folder streams run errors status = (line : Option (List ℕ)) × SaysRun folder streams run.fault run.ends.items line × IsToldWith line errors status
@@ -203,7 +202,7 @@ module _ {File : Type 0} (contents : File → Option (List ℕ)) where
     -- of a script: its names, and then its folder and its streams
     abbrev pub TellsScript : TraceCommand → Config → Script → List ℕ → List ℕ → ℕ → Type 0
     TellsScript t c s output errors status =
-        ((number : ℕ) × IsBadName s number × IsSaidOfStream t.script.now s number output errors status)
+        ((number : ℕ) × (fault : NameFault) × IsBadName s number fault × IsSaidOfStream t.script.now s number (Some (name_words fault)) output errors status)
         ⊎ (AreFree s × TellsFolder t.resume t c s output errors status)
 
     -- of the text of a script's file

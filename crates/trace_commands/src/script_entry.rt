@@ -1,10 +1,10 @@
 //! What is said of the entry where a script has a fault, by the JSON that its text is, and the names that there are.
 
-ghost use Rattle.std.specs.Prelude.{◌≡◌, ℕ, List, IfOk, string_bytes};
+ghost use Rattle.std.specs.Prelude.{◌≡◌, ◌++◌, ℕ, List, IfOk, OnOk, string_bytes};
 ghost use Rattle.conf_tree.specs.Walk.{Reads};
 ghost use Rattle.serde_json.specs.View.{view};
 ghost use Rattle.trace_text.specs.ScriptFaults.{IsFirstFault};
-ghost use Rattle.trace_commands.specs.ScriptLines.{SaysEntry, of_entry};
+ghost use Rattle.trace_commands.specs.ScriptLines.{SaysEntry, TellsKind, of_entry};
 
 use crate::script_form::{push_event_property, push_property, push_value};
 use conf_fault::push_cut;
@@ -75,7 +75,9 @@ fn push_wrong(
     script: &Value,
     place: &Place<'_>,
     kind: ScriptFaultKind,
-) -> Result<(), AllocError> {
+) -> Result<(), AllocError>
+    ensures { OnOk result (TellsKind kind (string_bytes said.new)) }
+{
     if kind == ScriptFaultKind::Shape && push_form(alloc, said, place)? {
         return Ok(());
     }
@@ -140,7 +142,9 @@ fn push_known(
     script: &Value,
     place: &Place<'_>,
     kind: ScriptFaultKind,
-) -> Result<(), AllocError> {
+) -> Result<(), AllocError>
+    ensures { OnOk result ((more : List ℕ) × (string_bytes said.new ≡ string_bytes said.old ++ more)) }
+{
     let names = match (place.list, kind) {
         (FaultyList::Streams, ScriptFaultKind::NoSuchStream) => type_names(alloc, config)?,
         (FaultyList::Events, ScriptFaultKind::NoSuchStream) => stream_names(alloc, script)?,

@@ -51,7 +51,7 @@ fn said_of_text(
 
 /// What is said of a text that is no JSON.
 fn said_of_no_json(alloc: Global, text: &[u8], kind: ScriptFaultKind) -> Result<String, AllocError>
-    ensures { IfOk result (λ said. SaysPosition text.now (string_bytes said)) }
+    ensures { IfOk result (λ said. SaysPosition text.now kind (string_bytes said)) }
 {
     let place = json_place(alloc, text)?;
     let mut said = format!(in alloc; "line {}, column {}: ", place.line, place.column)?;
@@ -69,7 +69,7 @@ pub fn refused_line<F: Display + Drop>(
     fault: F,
 ) -> Result<Vec<u8>, AllocError>
     requires { number < length script.now.streams }
-    ensures { IfOk result (λ line. IsStreamLine file.now script.now number line.items) }
+    ensures { IfOk result (λ line. IsStreamLine file.now script.now number (F.output fault) line.items) }
 {
     let mut said = String::new(alloc);
     push_cut(&mut said, script.streams.as_slice()[number].name.as_str())?;
