@@ -1,8 +1,8 @@
 -- What a judge knows around a value is what the value stands in.
-use Rattle.std.proofs.Common.{◌≡◌, ◌⊎◌, ◌+◌, ◌<◌, ℕ, zero, suc, Some, inl, inr, sym, ap, subst, ◌∙◌, arith, ◌↔◌, ◌||◌, Bool, true, false, List, [], ◌∷◌, Contains, Option, is_some, refl, codes, unwrap_or, option_map, option_and_then, cond}
-use Rattle.conf_laws.proofs.Words.{Around, member_of, item_of, levels_around, SaysDefault, HasDefault, IsBehindDefault, enumeration_around, IsDynamic, TakesName, IsBeside, IsTaken, Place, class_of, is_dynamic_array, Known, nothing, inside, behind, with_taken, is_true, says_default, class_of_member, is_dynamic, take, take_each, take_all, names_beside, with_names, is_taken, all_numbers, numbers_in, optional, HasMember, get_member-put, get_member-put_other, Data, Items, item, null, boolean, object, Members, no_members, member, get_item, get_member, as_object, cases_lt, false≢true, or_cases, or_left, or_right, bytes_eq, bytes_eq-Decides, own_names, length_name}
+use Rattle.std.proofs.Common.{IsTrue, ◌≡◌, ◌⊎◌, ◌+◌, ◌<◌, ℕ, zero, suc, Some, inl, inr, sym, ap, subst, ◌∙◌, arith, ◌↔◌, ◌||◌, Bool, true, List, [], ◌∷◌, Contains, Option, refl, unwrap_or, option_map, option_and_then, cond}
+use Rattle.conf_laws.proofs.Words.{Around, member_of, item_of, levels_around, SaysDefault, HasDefault, IsBehindDefault, enumeration_around, IsDynamic, TakesName, IsBeside, IsTaken, Place, class_of, is_dynamic_array, Known, nothing, inside, behind, with_taken, is_true, says_default, class_of_member, is_dynamic, take, take_each, take_all, names_beside, with_names, is_taken, all_numbers, numbers_in, HasMember, get_member-put, get_member-put_other, Data, Items, item, null, boolean, object, Members, no_members, member, get_item, as_object, cases_lt, false≢true, or_cases, or_left, or_right, bytes_eq-Decides, own_names, length_name}
 use Rattle.conf_laws.proofs.Words.places
-use Rattle.conf_laws.proofs.Readings.{by_test, some_same, class_told, only_dynamic}
+use Rattle.conf_laws.proofs.Readings.{some_same, class_told, only_dynamic}
 
 -- these are the items from place i on
 abbrev pub IsFrom : Items → ℕ → Items → Type 0
@@ -17,9 +17,6 @@ from_next all i d rest from = λ j. let same : j + suc i ≡ suc j + i = omega a
 pub item_here : (all : Items) (i : ℕ) (d : Data) (rest : Items) → IsFrom all i (item d rest) → get_item i all ≡ Some d
 item_here all i d rest from = let same : i ≡ 0 + i = omega arith in ap (λ n. get_item n all) same ∙ from 0
 
-abbrev pub IsTrue : Bool → Type 0
-IsTrue b = b ≡ true
-
 pub record Agrees (k : Known) (around : Around) : Type 0 where
   pub levels : k.levels ≡ levels_around around
   pub second : IsTrue k.has_default ↔ IsBehindDefault around
@@ -32,12 +29,10 @@ nothing_agrees = record { levels = refl; second = (λ e. false≢true e, λ h. a
 -- ---- a data stream type that says that it is the default
 
 true_there : (o : Option Data) → is_true o ≡ true → o ≡ Some (boolean true)
-true_there (Some (boolean true)) e = refl
-true_there _ e = absurd cc
+true_there o e = grind (arith, e)
 
 says_told : (d : Data) → says_default d ≡ true → SaysDefault d
-says_told (object ms) e = (ms, refl, true_there (optional (codes "$is-default") ms) e)
-says_told _ e = absurd cc
+says_told d e = grind (arith, e)
 
 told_says : (d : Data) → SaysDefault d → says_default d ≡ true
 told_says d (ms, is, flag) = subst (λ x. says_default x ≡ true) (sym is) (ap is_true flag)
@@ -49,29 +44,19 @@ module _ (k : Known) (around : Around) (h : Agrees k around) where
   inside_agrees places.TraceType ms = record { levels = refl; second = h.second; numbers = h.numbers; taken = h.taken }
   inside_agrees places.UnsignedEnumeration ms = record { levels = h.levels; second = h.second; numbers = refl; taken = h.taken }
   inside_agrees places.SignedEnumeration ms = record { levels = h.levels; second = h.second; numbers = refl; taken = h.taken }
-  inside_agrees places.StreamTypes ms = record { levels = h.levels; second = (λ e. inr (h.second.0 e), back); numbers = h.numbers; taken = h.taken }
-    where
-      back : HasDefault no_members ⊎ IsBehindDefault around → IsTrue k.has_default
-      back (inl (name, d, has, says)) = absurd has
-      back (inr b) = h.second.1 b
+  inside_agrees places.StreamTypes ms = record { levels = h.levels; second = (λ e. inr (h.second.0 e), λ p. elim p [ inl (name, d, has, says) ↦ absurd has | inr b ↦ h.second.1 b ]); numbers = h.numbers; taken = h.taken }
   inside_agrees _ ms = record { levels = h.levels; second = h.second; numbers = h.numbers; taken = h.taken }
 
 -- one alternative, then another, and what they are together
 joined : {T U V A B C : Type 0} → (T ↔ (A ⊎ U)) → (U ↔ (B ⊎ V)) → (A ⊎ B → C) → (C → A ⊎ B) → T ↔ (C ⊎ V)
-joined a b f g = (
-  λ t. elim (a.0 t) [ inl x ↦ inl (f (inl x)) | inr u ↦ elim (b.0 u) [ inl y ↦ inl (f (inr y)) | inr v ↦ inr v ] ],
-  λ p. elim p [ inl c ↦ elim (g c) [ inl x ↦ a.1 (inl x) | inr y ↦ a.1 (inr (b.1 (inl y))) ] | inr v ↦ a.1 (inr (b.1 (inr v))) ],
-)
+joined a b f g = grind (arith, a, b, f, g)
 
 module _ (around : Around) (ms before : Members) (name : List ℕ) (d : Data) where
   default_further : (b : Bool) → (IsTrue b ↔ (HasDefault before ⊎ IsBehindDefault around)) → IsTrue (b || says_default d) ↔ (HasDefault (member name d before) ⊎ IsBehindDefault around)
   default_further b h = joined
       (λ e. elim (or_cases b (says_default d) e) [ inl x ↦ inr x | inr y ↦ inl y ], λ p. elim p [ inl y ↦ or_right b (says_default d) y | inr x ↦ or_left b (says_default d) x ]) h
-      (λ p. elim p [ inl says ↦ (name, d, inl (refl, refl), says_told d says) | inr (l, e, has, says) ↦ (l, e, inr has, says) ]) back
-    where
-      back : HasDefault (member name d before) → IsTrue (says_default d) ⊎ HasDefault before
-      back (l, e, inl same, says) = inl (told_says d (subst SaysDefault same.1 says))
-      back (l, e, inr has, says) = inr (l, e, has, says)
+      (λ p. elim p [ inl says ↦ (name, d, inl (refl, refl), says_told d says) | inr (l, e, has, says) ↦ (l, e, inr has, says) ])
+      (λ (l, e, has, says). elim has [ inl same ↦ inl (told_says d (subst SaysDefault same.1 says)) | inr later ↦ inr (l, e, later, says) ])
 
   pub behind_agrees : (place : Place) (k : Known) → Agrees k (member_of place ms before ∷ around) → Agrees (behind place d k) (member_of place ms (member name d before) ∷ around)
   unfolding behind
@@ -81,12 +66,7 @@ module _ (around : Around) (ms before : Members) (name : List ℕ) (d : Data) wh
 -- ---- names that are taken
 
 pub taken_put : (name k : List ℕ) (ms : Members) → IsTrue (is_taken (take k ms) name) ↔ ((name ≡ k) ⊎ IsTrue (is_taken ms name))
-taken_put name k ms =
-    by_test (λ (b : Bool). IsTrue (is_taken (take k ms) name) ↔ ((name ≡ k) ⊎ IsTrue (is_taken ms name))) (bytes_eq name k)
-    (λ is. let same = (bytes_eq-Decides name k).0 is in (λ t. inl same, λ p. ap (λ n. is_taken (take k ms) n) same ∙ ap (λ o. is_some o) (get_member-put k null ms))) (λ is.
-    let other : ¬ (name ≡ k) = λ same. false≢true (sym is ∙ (bytes_eq-Decides name k).1 same) in
-    let found = ap (λ o. is_some o) (get_member-put_other name k null ms other) in
-    (λ t. inr (sym found ∙ t), λ p. elim p [ inl same ↦ absurd (other same) | inr t ↦ found ∙ t ]))
+taken_put name k ms = grind (arith, bytes_eq-Decides name k, get_member-put k null ms, get_member-put_other name k null ms)
 
 each_taken : (names : List (List ℕ)) (taken : Members) (name : List ℕ) → IsTrue (is_taken (take_each names taken) name) ↔ (Contains names name ⊎ IsTrue (is_taken taken name))
 each_taken [] taken name = (λ t. inr t, λ p. elim p [ inl (i, lt, is) ↦ absurd (omega (arith, lt)) | inr t ↦ t ])
@@ -99,12 +79,10 @@ each_taken (n ∷ names) taken name = joined (each_taken names (take n taken) na
 -- ---- dynamic arrays
 
 type_told : (o : Option Data) → option_and_then class_of (option_and_then as_object o) ≡ Some places.DynamicArray → (type : Members) × (o ≡ Some (object type)) × (class_of type ≡ Some places.DynamicArray)
-type_told (Some (object ms)) e = (ms, refl, e)
-type_told _ e = absurd cc
+type_told o e = grind (arith, e)
 
 member_told : (d : Data) → class_of_member d ≡ Some places.DynamicArray → IsDynamic d
-member_told (object ms) e = let t = type_told (get_member (codes "field-type") ms) e in (ms, t.0, refl, t.1, t.2)
-member_told _ e = absurd cc
+member_told d e = grind (arith, e)
 
 pub dynamic_told : (d : Data) → is_dynamic d ≡ true → IsDynamic d
 unfolding is_dynamic
@@ -117,10 +95,7 @@ told_dynamic d (ms, type, is, there, class) = rw (is, there, class) refl
 -- ---- the names of the members before one
 
 length_taken : (b : Bool) (d : Data) (k name : List ℕ) (taken : Members) → is_dynamic d ≡ b → IsTrue (is_taken (cond b (take (length_name k) taken) taken) name) ↔ ((IsDynamic d × (name ≡ length_name k)) ⊎ IsTrue (is_taken taken name))
-length_taken true d k name taken is =
-    let put = taken_put name (length_name k) taken in
-    (λ t. elim (put.0 t) [ inl same ↦ inl (dynamic_told d is, same) | inr u ↦ inr u ], λ p. elim p [ inl (dynamic, same) ↦ put.1 (inl same) | inr u ↦ put.1 (inr u) ])
-length_taken false d k name taken is = (λ t. inr t, λ p. elim p [ inl (dynamic, same) ↦ absurd (false≢true (sym is ∙ told_dynamic d dynamic)) | inr u ↦ u ])
+length_taken b d k name taken is = grind (arith, taken_put name (length_name k) taken, dynamic_told d, told_dynamic d, is)
 
 -- a member takes the name, and the members of an entry do
 abbrev TakesAs : List ℕ → Data → List ℕ → Type 0
@@ -134,17 +109,17 @@ all_taken no_members taken name = (λ t. inr t, λ p. elim p [ inl (k, d, has, i
 all_taken (member k d ms) taken name =
     joined (all_taken ms (take k (cond (is_dynamic d) (take (length_name k) taken) taken)) name)
     (joined {C = TakesAs k d name} (taken_put name k (cond (is_dynamic d) (take (length_name k) taken) taken)) (length_taken (is_dynamic d) d k name taken refl) (λ p. p) (λ p. p))
-    (λ p. elim p [ inl (l, e, has, named) ↦ (l, e, inr has, named) | inr named ↦ (k, d, inl (refl, refl), named) ]) back
-  where
-    back : MembersTake (member k d ms) name → MembersTake ms name ⊎ TakesAs k d name
-    back (l, e, inl same, named) = inr (subst (λ x. TakesAs x d name) same.0 (subst (λ x. TakesAs l x name) same.1 named))
-    back (l, e, inr has, named) = inl (l, e, has, named)
+    (λ p. elim p [ inl (l, e, has, named) ↦ (l, e, inr has, named) | inr named ↦ (k, d, inl (refl, refl), named) ])
+    (λ (l, e, has, named). elim has [ inl same ↦ inr (subst (λ x. TakesAs x d name) same.0 (subst (λ x. TakesAs l x name) same.1 named)) | inr later ↦ inl (l, e, later, named) ])
 
 entry_taken : (d : Data) (taken : Members) (name : List ℕ) → IsTrue (is_taken (with_names d taken) name) ↔ (TakesName d name ⊎ IsTrue (is_taken taken name))
-entry_taken (object ms) taken name = let all = all_taken ms taken name in (λ t. elim (all.0 t) [ inl m ↦ inl (ms, m.0, m.1, refl, m.2, m.3) | inr u ↦ inr u ], λ p. elim p [ inl takes ↦ all.1 (inl (those takes)) | inr u ↦ all.1 (inr u) ])
-  where
-    those : TakesName (object ms) name → MembersTake ms name
-    those (ns, k, d, is, has, named) = let same : ns ≡ ms = cc in (k, d, subst (HasMember k d) same has, named)
+entry_taken (object ms) taken name = let all = all_taken ms taken name in (
+  λ t. elim (all.0 t) [ inl m ↦ inl (ms, m.0, m.1, refl, m.2, m.3) | inr u ↦ inr u ],
+  λ p. elim p [
+    | inl (ns, k, d, is, has, named) ↦ let same : ns ≡ ms = cc in all.1 (inl (k, d, subst (HasMember k d) same has, named))
+    | inr u ↦ all.1 (inr u)
+  ],
+)
 entry_taken _ taken name = (λ t. inr t, λ p. elim p [ inl (ms, k, d, is, has, named) ↦ absurd cc | inr u ↦ u ])
 
 -- an entry before place i takes the name
@@ -163,14 +138,12 @@ takes_beside _ all = λ name. (λ t. absurd (false≢true t), λ p. elim p [ inl
 
 pub takes_further : (taken : Members) (place : Place) (all : Items) (i : ℕ) (d : Data) → get_item i all ≡ Some d → Takes taken place all i → Takes (with_names d taken) place all (suc i)
 takes_further taken place all i d is h = λ name. joined (entry_taken d taken name) (h name)
-    (λ p. elim p [ inl takes ↦ (i, d, omega arith, is, takes) | inr (j, entry, less, there, named) ↦ (j, entry, omega (arith, less), there, named) ]) (back name)
-  where
-    back : (name : List ℕ) → IsTakenBefore all (suc i) name → TakesName d name ⊎ IsTakenBefore all i name
-    back name (j, entry, less, there, named) = elim (cases_lt j i) [
+    (λ p. elim p [ inl takes ↦ (i, d, omega arith, is, takes) | inr (j, entry, less, there, named) ↦ (j, entry, omega (arith, less), there, named) ])
+    (λ (j, entry, less, there, named). elim (cases_lt j i) [
       | inl small ↦ inr (j, entry, small, there, named)
       | inr large ↦
           let same : j ≡ i = omega (arith, less, large) in inl (subst (λ e. TakesName e name) (some_same (get_item i all) entry d (subst (λ n. get_item n all ≡ Some entry) same there) is) named)
-    ]
+    ])
 
 -- what is taken at an item is what the items before it in its list take
 pub item_agrees : (k : Known) (around : Around) (taken : Members) (place : Place) (all : Items) (i : ℕ) → Agrees k around → Takes taken place all i → Agrees (with_taken taken k) (item_of place all i ∷ around)

@@ -2,20 +2,16 @@
 -- Lists that have an item for each entry of a map, under its name, are in byte order, and no longer than the map: environments and clock
 -- types that have no flaw and pass no limit are ones that the rules allow.
 use Rattle.std.proofs.Common.{◌≡◌, ℕ, ◌||◌, ◌&&◌, true, List, length, Ok, arith, ◌==◌, ◌%◌, Bool, Some, None, nat_lt, sym, ap, ◌≢◌, ℤ, pos, suc, ◌<◌, ◌≤◌, [], ◌∷◌, ◌++◌, Less, Greater, nat_cmp, refl, subst, ◌∙◌, length-append, All, Option, map, cond, lt-ltb, nat_le, int_le, codes, option_and_then, unwrap_or, negsuc}
-use Rattle.conf_laws.proofs.Numbers.{whole_there, lowest_end, highest_end, ReadSo, read_so, some_size, natural_is_in, alignment_or, needed_natural}
-use Rattle.conf_laws.proofs.Properties.{IsWithin, AreWithin, object_within, entry_within, optional_within, all_within, fitting_parts, flaws_in, names_of, sorted_names, names_counted, OwnPlace, is_own, is_object}
+use Rattle.conf_laws.proofs.Numbers.{range_read, some_size, natural_is_in, alignment_or, needed_natural}
+use Rattle.conf_laws.proofs.Properties.{IsWithin, AreWithin, object_within, entry_within, optional_within, all_within, fitting_parts, flaws_in, names_of, sorted_names, names_counted}
 use Rattle.conf_laws.proofs.Readings.{Says, proved_says, under_no_test, all_joined, same_natural, word_there, optional_found, by_found, by_test}
 use Rattle.conf_laws.proofs.Sound.{object_read, HasRow, RowsSound, ContentSound, object_sound, content_sound, first_item, first_entry, held_at, needed_sound, optional_sound, rows_sound}
-use Rattle.conf_laws.proofs.Words.{is_alignment, rows_of, Needed, entries_of, Place, At, WholeOrText, Whole, Text, Content, member_flaws, item_flaws, inside, behind, itself_of, form_of, Known, with_taken, key_fits, ranges_fit, key_of, key_by, names_beside, with_names, end_of, range_of, is_inside, inside_of, natural_in, numbers_of, numbers_in, all_numbers, item_content, leaf_of, whole_or_text, fits, here, AllAbove, IsInOrder, whole_of, OutOfRange, both_read, is_passed, name_of, is_reserved, plain_name_of, is_printable, Members, Data, number, array, Items, no_items, item, no_members, member, object, items_len, as_integer, optional, as_natural, string, members_len, nat_tests, and_parts, or_parts, leb-true, nat_list_cmp_total, tied_itself, T_from_true, All-from_recursion, All-weaker, slice_cmp, le_z_yes, list_any, option_map_or, AllByRecursion, bytes_eq, length-map, whole, low, high, ranges_in, labels_in, enumeration, integer, size_of, object_at, properties, LabelsInOrder, lowest, highest, IsRangeOf, IsEnumeration, is_name as is_identifier, unused_keywords, used_keywords, IsConfigName, IsPlainName, IsConfigText, IntType, Mapping, clock_type, clocks_in, clock_types, entry_value, entries_in, environment, natural, word, InByteOrder, IsEnvironmentValue, IsClockType, ClockType, EnvironmentEntry, integer_made as made, integer_align as align_of, default_align, counted_ranges}
+use Rattle.conf_laws.proofs.Words.{IsWhole, IsRange, is_alignment, rows_of, Needed, entries_of, Place, At, WholeOrText, Whole, Text, Content, member_flaws, item_flaws, inside, behind, itself_of, form_of, Known, with_taken, key_fits, ranges_fit, key_of, key_by, names_beside, with_names, range_of, is_inside, inside_of, natural_in, numbers_of, numbers_in, all_numbers, item_content, leaf_of, whole_or_text, fits, here, AllAbove, IsInOrder, OutOfRange, both_read, is_passed, name_of, is_reserved, plain_name_of, is_printable, Members, Data, array, Items, no_items, item, no_members, member, object, items_len, optional, as_natural, string, members_len, nat_tests, and_parts, or_parts, leb-true, nat_list_cmp_total, tied_itself, T_from_true, All-from_recursion, All-weaker, slice_cmp, le_z_yes, list_any, option_map_or, AllByRecursion, bytes_eq, length-map, whole, low, high, ranges_in, labels_in, enumeration, integer, size_of, object_at, properties, LabelsInOrder, lowest, highest, IsRangeOf, IsEnumeration, unused_keywords, used_keywords, IsConfigName, IsPlainName, IsConfigText, IntType, Mapping, clock_type, clocks_in, clock_types, entry_value, entries_in, environment, natural, word, InByteOrder, IsEnvironmentValue, IsClockType, ClockType, EnvironmentEntry, integer_made as made, integer_align as align_of, default_align, counted_ranges, place_of_properties, is_position, own_place}
 use Rattle.conf_laws.proofs.Words.places
 
 pub config_name : (name : List ℕ) → name_of name ≡ Ok tt → IsConfigName name
 unfolding name_of
-config_name name e =
-    let p = is_passed (is_identifier name && nat_le (length name) 255) tt tt _ e in
-    let q = and_parts (is_identifier name) (nat_le (length name) 255) p.0 in
-    let short : nat_le (length name) 255 ≡ true = q.1 in
-    record { identifier = q.0; short = grind (arith, nat_tests) }
+config_name name e = grind (arith, nat_tests, e)
 
 pub plain_name : (name : List ℕ) → plain_name_of name ≡ Ok tt → IsPlainName name
 unfolding plain_name_of is_reserved
@@ -47,17 +43,11 @@ integer_says k place signed ms size h =
 
 -- ---- one range
 
-end_is : (d : Data) (x : ℤ) → end_of d ≡ Ok x → whole (Some d) ≡ x
-unfolding whole_of
-end_is (number n) x e = ap (λ o. unwrap_or o (pos 0)) (whole_there lowest_end highest_end (as_integer n) x e).0
-end_is _ x e = absurd cc
+end_is : (d : Data) (x : ℤ) → IsWhole d x → x ≡ whole (Some d)
+end_is d x whole = grind (arith, whole)
 
-range_is : (d : Data) (x y : ℤ) → ReadSo d x y → (x ≡ low d) × (y ≡ high d)
-range_is (array ds) x y (ReadSo.one_number z none e) = absurd cc
-range_is d x y (ReadSo.one_number z none e) = let one = sym (end_is d z e) in (one, one)
-range_is (array ds) x y (ReadSo.two_numbers a b z w pair e f) =
-    let same : item a (item b no_items) ≡ ds = cc in (sym (end_is a z e) ∙ ap (λ v. low (array v)) same, sym (end_is b w f) ∙ ap (λ v. high (array v)) same)
-range_is d x y (ReadSo.two_numbers a b z w pair e f) = absurd cc
+range_is : (d : Data) (x y : ℤ) → IsRange d x y → (x ≡ low d) × (y ≡ high d)
+range_is d x y is = grind (arith, end_is, is)
 
 -- from low to high, not empty and inside the numbers that are known
 abbrev pub is_known : Known → ℤ → ℤ → Bool
@@ -68,7 +58,7 @@ unfolding inside_of is_inside
 range_inside k d e =
     let read = both_read (range_of d) _ tt e in
     let passed = is_passed (is_inside k.numbers read.0) tt tt (here OutOfRange) read.2 in
-    let ends = range_is d read.0.low read.0.high (read_so d read.0 read.1) in
+    let ends = range_is d read.0.low read.0.high (range_read d read.0 read.1).0 in
     subst (λ x. is_known k x (high d) ≡ true) ends.0 (subst (λ y. is_known k read.0.low y ≡ true) ends.1 passed.0)
 
 -- a range inside these numbers, under a label that people read
@@ -151,19 +141,17 @@ record AreMappings (k : Known) (ms : List Mapping) : Type 0 where
   few : length ms ≤ 1024
 
 mappings_good : (k : Known) (labels : Members) → ContentSound k (At places.Mappings) (object labels) → IsWithin (At places.Mappings) (object labels) → AreMappings k (labels_in labels)
-unfolding ranges_fit inside
+unfolding ranges_fit inside place_of_properties is_position own_place
 mappings_good k labels h within =
-    let own = (is_own OwnPlace.mappings).own labels in
-    let flaws = (rows_sound k places.Mappings places.Mappings labels own (object_sound k places.Mappings labels h.inner)).flaws in
-    let all = object_within places.Mappings places.Mappings labels own within in
+    let flaws = (rows_sound k places.Mappings places.Mappings labels refl (object_sound k places.Mappings labels h.inner)).flaws in
+    let all = object_within places.Mappings places.Mappings labels refl within in
     let few = leb-true (counted_ranges labels) 1024 (fitting_parts places.Mappings (object labels) within.fitting).2 in
     record { each = All-from_recursion (IsGoodMapping k) (labels_in labels) (labels_good k labels flaws all); in_order = labels_in_order labels all.in_order; some = some_range k labels h.itself flaws; few = omega (arith, few, labels_few labels) }
 
 -- ---- the numbers of the integer
 
 numbers_said : (signed : Bool) (o : Option ℕ) (size : ℕ) → unwrap_or o 0 ≡ size → 0 < size → option_map_or (numbers_of signed) o all_numbers ≡ numbers_of signed size
-numbers_said signed None size is some = absurd (omega (arith, is, some))
-numbers_said signed (Some n) size is some = ap (numbers_of signed) is
+numbers_said signed o size is some = grind (arith, is, some)
 
 abbrev AreNumbersOf : Known → IntType → Type 0
 AreNumbersOf k t = (k.numbers.low ≡ lowest t.signed t.size) × (k.numbers.high ≡ highest t.signed t.size)
@@ -185,16 +173,6 @@ range_in k t m is h =
 
 -- ---- the whole
 
-enumeration_with : (k : Known) (signed : Bool) (ms : Members) (mappings : List Mapping) (t : IntType) → IsMade (size_of ms) (align_of ms) signed t → k.numbers ≡ numbers_in signed ms → AreMappings k mappings → IsEnumeration (record { int = t; mappings = mappings })
-enumeration_with k signed ms mappings t made known h = record {
-  no_clock = made.no_clock;
-  ranges = All-weaker (IsGoodMapping k) (IsRangeOf t) (λ m. range_in k t m (numbers_are k signed ms t known made)) mappings h.each;
-  labels = All-weaker (IsGoodMapping k) (λ m. IsConfigText m.label) (λ m g. g.text) mappings h.each;
-  in_order = h.in_order;
-  some = h.some;
-  few = h.few;
-}
-
 pub enumeration_says : (k : Known) (place : Place) (signed : Bool) (ms : Members) → HasRow place (codes "size") Needed (Whole (pos 1) (pos 64)) → HasRow place (codes "mappings") Needed (At places.Mappings) → k.numbers ≡ numbers_in signed ms → RowsSound k place ms
     → Says (enumeration signed ms) (λ t. AreWithin place ms → IsEnumeration t)
 unfolding enumeration properties object_at itself_of form_of
@@ -203,7 +181,16 @@ enumeration_says k place signed ms size mappings known h =
     let (d, there, sound) = needed_sound k place (codes "mappings") (At places.Mappings) ms mappings h in
     let labels = object_read d _ sound.value.itself in
     let found = optional_found (codes "mappings") ms (object labels.0) (there ∙ ap Some labels.1) refl in
-    (record { int = int.0; mappings = labels_in labels.0 }, rw (int.1, found) refl, λ within. enumeration_with k signed ms (labels_in labels.0) int.0 int.2 known (mappings_good k labels.0 (subst (λ x. ContentSound k (At places.Mappings) x) labels.1 sound.value) (optional_within place (codes "mappings") (At places.Mappings) mappings ms (object labels.0) within found)))
+    let good : AreWithin place ms → IsEnumeration (record { int = int.0; mappings = labels_in labels.0 }) = λ within.
+    let all = mappings_good k labels.0 (subst (λ x. ContentSound k (At places.Mappings) x) labels.1 sound.value) (optional_within place (codes "mappings") (At places.Mappings) mappings ms (object labels.0) within found) in record {
+      no_clock = int.2.no_clock;
+      ranges = All-weaker (IsGoodMapping k) (IsRangeOf int.0) (λ m. range_in k int.0 m (numbers_are k signed ms int.0 known int.2)) (labels_in labels.0) all.each;
+      labels = All-weaker (IsGoodMapping k) (λ m. IsConfigText m.label) (λ m h. h.text) (labels_in labels.0) all.each;
+      in_order = all.in_order;
+      some = all.some;
+      few = all.few;
+    } in
+    (record { int = int.0; mappings = labels_in labels.0 }, rw (int.1, found) refl, good)
 
 -- items that are good, in byte order of their names, and no more than `most`
 pub record AreAllowed {A : Type 0} (named : A → List ℕ) (good : A → Type 0) (most : ℕ) (xs : List A) : Type 0 where
@@ -254,10 +241,10 @@ abbrev pub IsEnvironment : List EnvironmentEntry → Type 0
 IsEnvironment es = AreAllowed entry_name IsEntry 256 es
 
 pub environment_allowed : (k : Known) (ms : Members) → member_flaws k places.Trace ms ≡ [] → AreWithin places.Trace ms → IsEnvironment (environment ms)
-unfolding environment entries_of rows_of
+unfolding environment entries_of rows_of inside itself_of form_of place_of_properties is_position own_place
 environment_allowed k ms f h =
-    let all = all_within places.Trace (codes "environment") (refl, refl) OwnPlace.environment ms h in
-    map_allowed entry_name IsEntry 256 _ _ all.0.in_order all.1 (entries_under k _ (flaws_in k places.Trace (codes "environment") (refl, refl) OwnPlace.environment ms f) all.0)
+    let all = all_within places.Trace (codes "environment") (refl, refl) (λ j d own. (refl, refl)) ms h in
+    map_allowed entry_name IsEntry 256 _ _ all.0.in_order all.1 (entries_under k _ (flaws_in k places.Trace (codes "environment") (refl, refl) (λ j d own. (refl, refl), λ j own. refl) ms f) all.0)
 
 -- ---- one clock type
 
@@ -280,13 +267,13 @@ abbrev clock_name : ClockType → List ℕ
 clock_name c = c.name
 
 clocks_under : (k : Known) (ms : Members) → member_flaws k places.ClockTypes ms ≡ [] → AreWithin places.ClockTypes ms → AreUnder clock_name IsClockType (names_of ms) (clocks_in ms)
-unfolding key_of key_by entries_of clock_type behind inside
+unfolding key_of key_by entries_of clock_type behind inside itself_of form_of place_of_properties is_position own_place
 clocks_under k no_members f h = none_under clock_name IsClockType
 clocks_under k (member name d ms) f h =
     let sound = first_entry k places.ClockTypes name (At places.ClockType) d ms (_, refl, refl, refl) f in
     let within = entry_within places.ClockTypes (At places.ClockType) (_, refl, refl, refl) name d ms h in
-    let (inner, same, rows) = held_at k places.ClockType d (is_object OwnPlace.clock_type) sound.0.value in
-    let good = object_within places.ClockType places.ClockType inner ((is_own OwnPlace.clock_type).own inner) (subst (λ x. IsWithin (At places.ClockType) x) same within.0) in
+    let (inner, same, rows) = held_at k places.ClockType d (λ j x ms. (refl, refl)) sound.0.value in
+    let good = object_within places.ClockType places.ClockType inner refl (subst (λ x. IsWithin (At places.ClockType) x) same within.0) in
     let one : IsClockType (clock_type name inner) = record { name = plain_name name sound.0.named; description = λ text is. description_allowed k inner text rows.flaws good is; frequency = frequency_positive k inner rows.flaws } in
     subst (λ x. AreUnder clock_name IsClockType (name ∷ names_of ms) (clocks_in (member name x ms))) (sym same)
     (one_under clock_name IsClockType name (names_of ms) (clock_type name inner) (clocks_in ms) refl one (clocks_under k ms sound.1 within.2))
@@ -295,7 +282,7 @@ abbrev pub AreClocks : List ClockType → Type 0
 AreClocks cs = AreAllowed clock_name IsClockType 64 cs
 
 pub clocks_allowed : (k : Known) (ms : Members) → member_flaws k places.TraceType ms ≡ [] → AreWithin places.TraceType ms → AreClocks (clock_types ms)
-unfolding clock_types entries_of rows_of
+unfolding clock_types entries_of rows_of inside itself_of form_of place_of_properties is_position own_place
 clocks_allowed k ms f h =
-    let all = all_within places.TraceType (codes "clock-types") (refl, refl) OwnPlace.clock_types ms h in
-    map_allowed clock_name IsClockType 64 _ _ all.0.in_order all.1 (clocks_under k _ (flaws_in k places.TraceType (codes "clock-types") (refl, refl) OwnPlace.clock_types ms f) all.0)
+    let all = all_within places.TraceType (codes "clock-types") (refl, refl) (λ j d own. (refl, refl)) ms h in
+    map_allowed clock_name IsClockType 64 _ _ all.0.in_order all.1 (clocks_under k _ (flaws_in k places.TraceType (codes "clock-types") (refl, refl) (λ j d own. (refl, refl), λ j own. refl) ms f) all.0)

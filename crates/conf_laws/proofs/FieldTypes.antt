@@ -1,13 +1,13 @@
 -- A field type that has no flaw says something; and where it passes no limit, that is what the rules allow: it holds an integer that is no
 -- clock's, an enumeration or a string; no array in it is empty where it stands in a dynamic array; and its static arrays nest as deep as the
 -- rules allow.
-use Rattle.std.proofs.Common.{◌≡◌, ℕ, zero, suc, ◌*◌, ◌<◌, ◌≤◌, true, false, cond, List, [], ◌∷◌, length, Option, Some, None, refl, sym, ap, subst, ◌∙◌, arith, max, nat_eq, nat_le, not, codes, unwrap_or, option_and_then, Ok}
+use Rattle.std.proofs.Common.{◌≡◌, ℕ, zero, suc, ◌*◌, ◌<◌, ◌≤◌, true, false, List, [], ◌∷◌, length, Option, Some, refl, sym, ap, subst, ◌∙◌, arith, max, nat_eq, nat_le, not, codes, unwrap_or, option_and_then, Ok}
 use Rattle.conf_laws.proofs.AllowedMaps.{integer_says, enumeration_says}
 use Rattle.conf_laws.proofs.Numbers.{needed_natural}
 use Rattle.conf_laws.proofs.Properties.{IsWithin, AreWithin, object_within, property_within}
 use Rattle.conf_laws.proofs.Readings.{Says, element_is, element_bits, in_array, by_element, same_natural}
 use Rattle.conf_laws.proofs.Sound.{RowsSound, ContentSound, object_sound, needed_sound, TypeSound, type_sound, class_place}
-use Rattle.conf_laws.proofs.Words.{rows_of, admits_class, is_class, Place, At, any_object, itself_of, form_of, class_of, Known, inside, at_least_one, elements, times, cond_some, leb-true, natural_in, is_position, is_number, is_static_array, has_bits, Data, object, Members, get_member, false≢true, nat_tests, and_parts, same_Some, AllByRecursion, option_map_or, length_of, of_class, field_type, element, natural, IsNest, elements_of, IsConfigLeaf, chain_of, Int, Enum, Str, Static, FieldType}
+use Rattle.conf_laws.proofs.Words.{rows_of, admits_class, is_class, Place, At, any_object, itself_of, form_of, class_of, Known, inside, at_least_one, elements, times, natural_in, is_position, is_number, is_static_array, has_bits, Data, object, Members, get_member, false≢true, nat_tests, and_parts, AllByRecursion, option_map_or, length_of, of_class, field_type, element, natural, IsNest, elements_of, IsConfigLeaf, chain_of, Int, Enum, Str, Static, FieldType}
 use Rattle.conf_laws.proofs.Words.places
 
 -- its static arrays nest no deeper than these levels, and have n elements in all
@@ -27,8 +27,7 @@ nest_allowed d t n h e = let nests = h.nests 8 n e in let size = nests.size in l
 -- no array
 module _ (ms : Members) (class : Place) (is : class_of ms ≡ Some class) (other : is_static_array class ≡ false) where
   counted_one : (levels n : ℕ) → elements levels (object ms) ≡ Some n → 1 ≡ n
-  counted_one zero n e = let single : option_map_or is_static_array (class_of ms) false ≡ false = ap (λ o. option_map_or is_static_array o false) is ∙ other in same_Some 1 n (rw single at e)
-  counted_one (suc levels) n e = let single : option_map_or is_static_array (class_of ms) false ≡ false = ap (λ o. option_map_or is_static_array o false) is ∙ other in same_Some 1 n (rw single at e)
+  counted_one levels n e = grind (arith, is, other, e)
 
   alone : (t : FieldType) → (chain_of t).lengths ≡ [] → IsConfigLeaf (chain_of t).leaf → IsAllowed (object ms) t
   unfolding elements_of
@@ -42,13 +41,10 @@ module _ (ms : Members) (class : Place) (is : class_of ms ≡ Some class) (other
 
 -- the product of two counts, where it is not too large
 times_told : (a b : Option ℕ) (m : ℕ) → times a b ≡ Some m → (first second : ℕ) × (a ≡ Some first) × (b ≡ Some second) × (m ≡ first * second) × (m ≤ 1048576)
-times_told (Some n) (Some k) m e =
-    let p = cond_some (nat_le (n * k) 1048576) (n * k) m e in (n, k, refl, refl, sym p.1, subst (λ x. x ≤ 1048576) p.1 (leb-true (n * k) 1048576 p.0))
-times_told _ _ m e = absurd cc
+times_told a b m e = grind (arith, nat_tests, e)
 
 own_is : (o : Option ℕ) (own : ℕ) → at_least_one o ≡ Some own → max 1 (unwrap_or o 0) ≡ own
-own_is None own e = same_Some 1 own e
-own_is (Some n) own e = let same : cond (nat_eq n 0) 1 n ≡ own = same_Some _ own e in grind (arith, nat_tests)
+own_is o own e = grind (arith, nat_tests, e)
 
 -- an array of so many of these
 module _ (ms : Members) (static : option_map_or is_static_array (class_of ms) false ≡ true) (n : ℕ) (is : natural (codes "length") ms ≡ Some n) (value : Data) (inner : FieldType) (there : get_member (codes "element-field-type") ms ≡ Some value) where

@@ -1,16 +1,12 @@
 -- A whole number that is in its range is a natural number in it; what a range that was read says; and the alignments of fields, where one
 -- that passes no limit is the very number that is read.
-use Rattle.std.proofs.Common.{◌≡◌, ◌≤◌, ℕ, ℤ, pos, negsuc, true, false, List, Option, Some, Ok, nat_le, leb-true, le-leb, arith, refl, sym, ap, subst, ◌∙◌, None, ◌<◌, Bool, ◌%◌, ◌==◌, cond, ◌&&◌, int_le, nat_lt, nat_eq, codes, option_and_then, unwrap_or}
-use Rattle.conf_laws.proofs.Readings.{optional_found, by_found, by_test}
+use Rattle.std.proofs.Common.{◌≡◌, ◌≤◌, ℕ, ℤ, pos, negsuc, true, false, List, Option, Some, Ok, nat_le, leb-true, le-leb, arith, refl, sym, ap, subst, ◌∙◌, ◌<◌, Bool, ◌%◌, ◌==◌, int_le, nat_lt, codes, option_and_then, unwrap_or}
+use Rattle.conf_laws.proofs.Readings.{optional_found}
 use Rattle.conf_laws.proofs.Sound.{HasRow, RowsSound, needed_sound}
-use Rattle.conf_laws.proofs.Words.{IsWhole, IsPair, Place, Whole, Needed, is_null, itself_of, Known, leaf_of, whole_from, is_power_of_two, divides, numbers_of, end_of, pair_of, single_of, range_of, is_number, here, index, whole_of, whole_or_not, wanted, at, OutOfRange, wanted_found, both_read, is_passed, read_there, ok_same, as_natural, natural_or_none, integer_or_none, Data, number, Num, Members, array, Items, no_items, item, as_integer, as_number, as_array, nat_tests, false≢true, and_parts, eqb-true, same_Some, is_alignment, alignment_of, alignment, natural, lowest, highest, integer_align, default_align, size_of, align_of}
+use Rattle.conf_laws.proofs.Words.{IsWhole, IsRange, Place, Whole, Needed, is_null, itself_of, Known, leaf_of, whole_from, is_power_of_two, divides, numbers_of, end_of, pair_of, single_of, range_of, is_number, index, whole_of, whole_or_not, wanted, at, wanted_found, both_read, read_there, ok_same, as_natural, natural_or_none, integer_or_none, Data, Num, Members, array, Items, no_items, item, as_integer, as_number, nat_tests, false≢true, and_parts, same_Some, is_alignment, alignment_of, alignment, natural, lowest, highest, integer_align, default_align, size_of, align_of}
 
 pub whole_there : (low high : ℤ) (found : Option ℤ) (z : ℤ) → whole_or_not low high found ≡ Ok z → (found ≡ Some z) × (int_le low z ≡ true) × (int_le z high ≡ true)
-whole_there low high None z e = absurd cc
-whole_there low high (Some y) z e =
-    let p = is_passed (int_le low y && int_le y high) y z (here OutOfRange) e in
-    let b = and_parts (int_le low y) (int_le y high) p.0 in
-    (ap Some p.1, ap (int_le low) (sym p.1) ∙ b.0, ap (λ x. int_le x high) (sym p.1) ∙ b.1)
+whole_there low high found z e = grind (arith, nat_tests, e)
 
 -- a whole number that was read, and that it is between its bounds
 pub whole_read : (low high : ℤ) (d : Data) (z : ℤ) → whole_of low high d ≡ Ok z → IsWhole d z × (int_le low z ≡ true) × (int_le z high ≡ true)
@@ -25,8 +21,7 @@ abbrev NaturalIn : ℕ → ℕ → Data → Type 0
 NaturalIn low high d = (n : ℕ) × (as_natural d ≡ Some n) × (nat_le low n ≡ true) × (nat_le n high ≡ true) × (is_null d ≡ false)
 
 number_there : (d : Data) (m : Num) → as_number d ≡ Some m → is_null d ≡ false
-number_there (number n) m e = refl
-number_there _ m e = absurd cc
+number_there d m e = grind (arith, e)
 
 natural_of_whole : (low high : ℕ) (d : Data) (z : ℤ) → IsWhole d z → int_le (pos low) z ≡ true → int_le z (pos high) ≡ true → high ≤ 18446744073709551615 → NaturalIn low high d
 unfolding as_natural
@@ -58,8 +53,7 @@ needed_natural k place name low high ms row h most =
 -- ---- a number that is told
 
 pub number_told : (o : Option ℕ) (n : ℕ) → is_number o n ≡ true → o ≡ Some n
-number_told None n e = absurd cc
-number_told (Some m) n e = ap Some (eqb-true m n e)
+number_told o n e = grind (arith, nat_tests, e)
 
 abbrev pub lowest_end : ℤ
 lowest_end = negsuc 9223372036854775807
@@ -67,48 +61,45 @@ lowest_end = negsuc 9223372036854775807
 abbrev pub highest_end : ℤ
 highest_end = pos 18446744073709551615
 
--- what was read as a range: a number, or a list of two
-pub data ReadSo (d : Data) : ℤ → ℤ → Type 0 where
-  one_number : (x : ℤ) → as_array d ≡ None → end_of d ≡ Ok x → ReadSo d x x
-  two_numbers : (a b : Data) (x y : ℤ) → IsPair d a b → end_of a ≡ Ok x → end_of b ≡ Ok y → ReadSo d x y
+-- a number that a configuration can hold
+abbrev pub IsEnd : ℤ → Type 0
+IsEnd z = (int_le lowest_end z ≡ true) × (int_le z highest_end ≡ true)
 
-single_so : (d : Data) (range : _) → single_of d ≡ Ok range → as_array d ≡ None → ReadSo d range.low range.high
-single_so d range e none =
-    let x = both_read (end_of d) _ range e in
-    subst (λ r. ReadSo d r.low r.high) (ok_same (record { low = x.0; high = x.0 }) range x.2) (ReadSo.one_number x.0 none x.1)
+-- what was read as a range is one, and a configuration can hold its ends
+abbrev pub IsRead : Data → ℤ → ℤ → Type 0
+IsRead d x y = IsRange d x y × IsEnd x × IsEnd y
 
-pair_so : (ds : Items) (range : _) → pair_of ds ≡ Ok range → ReadSo (array ds) range.low range.high
+single_read : (d : Data) (range : _) → single_of d ≡ Ok range → IsRead d range.low range.high
+single_read d range e =
+    let (z, first, last) = both_read (end_of d) _ range e in
+    let (whole, least, most) = whole_read lowest_end highest_end d z first in
+    subst (λ r. IsRead d r.low r.high) (ok_same (record { low = z; high = z }) range last) (IsRange.one_number z whole, (least, most), (least, most))
+
+pair_read : (ds : Items) (range : _) → pair_of ds ≡ Ok range → IsRead (array ds) range.low range.high
 unfolding pair_of
-pair_so (item a (item b no_items)) range e =
-    let x = both_read (at (index 0) (end_of a)) _ range e in
-    let y = both_read (at (index 1) (end_of b)) _ range x.2 in
-    subst (λ r. ReadSo (array (item a (item b no_items))) r.low r.high) (ok_same (record { low = x.0; high = y.0 }) range y.2)
-    (ReadSo.two_numbers a b x.0 y.0 refl (read_there (index 0) (end_of a) x.0 x.1) (read_there (index 1) (end_of b) y.0 y.1))
-pair_so _ range e = absurd cc
+pair_read (item a (item b no_items)) range e =
+    let (x, first, next) = both_read (at (index 0) (end_of a)) _ range e in
+    let (y, second, last) = both_read (at (index 1) (end_of b)) _ range next in
+    let (low, least, below) = whole_read lowest_end highest_end a x (read_there (index 0) (end_of a) x first) in
+    let (high, above, most) = whole_read lowest_end highest_end b y (read_there (index 1) (end_of b) y second) in
+    subst (λ r. IsRead (array (item a (item b no_items))) r.low r.high) (ok_same (record { low = x; high = y }) range last) (IsRange.two_numbers a b x y refl low high, (least, below), (above, most))
+pair_read _ range e = absurd cc
 
-pub read_so : (d : Data) (range : _) → range_of d ≡ Ok range → ReadSo d range.low range.high
+pub range_read : (d : Data) (range : _) → range_of d ≡ Ok range → IsRead d range.low range.high
 unfolding range_of
-read_so (array ds) range e = pair_so ds range e
-read_so d range e = single_so d range e refl
-
-pub end_whole : (d : Data) (x : ℤ) → end_of d ≡ Ok x → IsWhole d x
-end_whole d x e = (whole_read lowest_end highest_end d x e).0
+range_read (array ds) range e = pair_read ds range e
+range_read d range e = single_read d range e
 
 -- ---- the numbers of an integer
 
 pub some_size : (signed : Bool) (size : ℕ) → 0 < size → size ≤ 64 → ((numbers_of signed size).low ≡ lowest signed size) × ((numbers_of signed size).high ≡ highest signed size)
 unfolding numbers_of
-some_size signed size some most =
-    let a : nat_eq size 0 ≡ false = grind (arith, nat_tests) in
-    let b : nat_lt 64 size ≡ false = grind (arith, nat_tests) in
-    rw (a, b) (refl, refl)
+some_size signed size some most = grind (arith, nat_tests, some, most)
 
 -- a property that is a power of two up to 4,096, or another where it counts as left out
 pub alignment_or : (name : List ℕ) (otherwise : ℕ) (ms : Members) → is_alignment otherwise ≡ true → is_alignment (unwrap_or (alignment name ms) otherwise) ≡ true
 unfolding alignment
-alignment_or name otherwise ms default =
-    by_found (λ (o : Option ℕ). is_alignment (unwrap_or (option_and_then alignment_of o) otherwise) ≡ true) (natural name ms) (λ none. default)
-    (λ n there. by_test (λ (b : Bool). is_alignment (unwrap_or (cond b (Some n) None) otherwise) ≡ true) (is_alignment n) (λ is. is) (λ is. default))
+alignment_or name otherwise ms default = grind (arith, default)
 
 module _ (ms : Members) (n : ℕ) (power : is_power_of_two (pos n) ≡ true) (fits : divides 4096 (Some n) ≡ true) where
   kept : (name : List ℕ) → natural name ms ≡ Some n → alignment name ms ≡ Some n

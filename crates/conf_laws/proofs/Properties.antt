@@ -1,55 +1,19 @@
 -- What the table says of the properties, objects and maps that are read: each property at its place, with what it holds. And what stands at
 -- the properties of an object, as entries of a map, and as items of a list, where no limit is passed and names are in order.
-use Rattle.std.proofs.Common.{◌≡◌, ◌++◌, ℕ, Bool, true, false, List, [], Some, refl, subst, suc, ◌∷◌, length, Less, nat_cmp, ap, ◌&&◌, Option, sym, option_and_then, unwrap_or, nat_le, le-leb, arith}
+use Rattle.std.proofs.Common.{◌≡◌, ◌++◌, ℕ, Bool, true, List, [], Some, refl, subst, suc, ◌∷◌, length, Less, nat_cmp, ap, Option, sym, option_and_then, unwrap_or, nat_le, le-leb, arith}
 use Rattle.conf_laws.proofs.Readings.{at_found, by_found}
 use Rattle.conf_laws.proofs.Sound.{first_none, optional_there, optional_sound, HasRow, row_leads, IsMapOf, map_leads, IsObject, held_at}
-use Rattle.conf_laws.proofs.Words.{Presence, content_under, entries_of, Place, At, Content, Entries, told_by, member_flaws, itself_of, Known, inside, within_limit, fits, inner_limits, member_limits, key_fits, content_limits, item_limits, place_fits, arrays_fit, at_most, count_of, ranges_fit, item_content, place_of_properties, form_of, is_position, own_place, Flaw, key, within, index, AllAbove, IsInOrder, Ascends, MembersAscend, ItemsAscend, optional, Data, Members, member, Items, item, no_members, object, members_len, get_member, as_object, and_parts, option_map_or, slice_cmp, IsStrictlySortedBy, AllByRecursion, object_at, properties, InByteOrder}
+use Rattle.conf_laws.proofs.Words.{nat_tests, Presence, content_under, entries_of, Place, At, Content, Entries, told_by, member_flaws, Known, inside, within_limit, fits, inner_limits, member_limits, key_fits, content_limits, item_limits, place_fits, arrays_fit, at_most, count_of, ranges_fit, item_content, place_of_properties, Flaw, key, within, index, AllAbove, IsInOrder, Ascends, MembersAscend, ItemsAscend, optional, Data, Members, member, Items, item, no_members, object, members_len, get_member, as_object, nothing, option_map_or, slice_cmp, IsStrictlySortedBy, AllByRecursion, object_at, properties, InByteOrder}
 use Rattle.conf_laws.proofs.Words.contents
-use Rattle.conf_laws.proofs.Words.places
 
--- an object whose place says which properties it has, around which nothing more is known
-pub record IsOwn (place : Place) : Type 0 where
-  pub own : (ms : Members) → place_of_properties place ms ≡ place
-  pub known : (k : Known) (ms : Members) → inside place ms k ≡ k
-
--- a place whose rows are its own, and whether objects of any kind stand there
-pub data OwnPlace : Bool → Place → Type 0 where
-  root : OwnPlace true places.Root
-  trace : OwnPlace true places.Trace
-  trace_features : OwnPlace true places.TraceFeatures
-  clock_types : OwnPlace true places.ClockTypes
-  clock_type : OwnPlace true places.ClockType
-  environment : OwnPlace true places.Environment
-  stream_types : OwnPlace true places.StreamTypes
-  stream_type : OwnPlace true places.StreamType
-  stream_features : OwnPlace true places.StreamFeatures
-  packet_features : OwnPlace true places.PacketFeatures
-  record_features : OwnPlace true places.EventRecordFeatures
-  event_types : OwnPlace true places.EventTypes
-  event_type : OwnPlace true places.EventType
-  named_member : OwnPlace true places.Member
-  mappings : OwnPlace false places.Mappings
-  entry : OwnPlace false places.Entry
-
-pub is_object : {place : Place} → OwnPlace true place → IsObject place
-unfolding itself_of form_of place_of_properties is_position own_place
-is_object OwnPlace.root = record { form = λ k d. refl; own = λ ms. refl }
-is_object _ = record { form = λ k d. refl; own = λ ms. refl }
-
-pub is_own : {b : Bool} {place : Place} → OwnPlace b place → IsOwn place
-unfolding place_of_properties is_position own_place inside
-is_own OwnPlace.root = record { own = λ ms. refl; known = λ k ms. refl }
-is_own _ = record { own = λ ms. refl; known = λ k ms. refl }
-
-pub type_object : IsObject places.TraceType
-unfolding itself_of form_of place_of_properties is_position own_place
-type_object = record { form = λ k d. refl; own = λ ms. refl }
+-- a place of objects with rows of its own, around which nothing more is known
+abbrev pub IsOwn : Place → Type 0
+IsOwn place = IsObject place × ((k : Known) (ms : Members) → inside place ms k ≡ k)
 
 -- ---- no limit is passed, and names are in order
 
 pub fits_there : (b : Bool) (xs : List Flaw) → told_by (within_limit b) ++ xs ≡ [] → (b ≡ true) × (xs ≡ [])
-fits_there true xs e = (refl, e)
-fits_there false xs e = absurd cc
+fits_there b xs e = grind (arith, e)
 
 -- by a value, and by what it holds
 pub record IsWithin (content : Content) (d : Data) : Type 0 where
@@ -105,10 +69,6 @@ entry_within place content map name d ms h =
     let first = first_limits place name d ms h.limits in
     (value_within place name content d (map_leads place name content map) first.0 h.ascend.0, (fits_there (key_fits place name) _ first.0).0, record { limits = first.1; in_order = h.in_order.1; ascend = h.ascend.1 })
 
--- the first item of a list, and those behind it
-pub item_within : (place : Place) (i : ℕ) (d : Data) (ds : Items) → AreItemsWithin place i (item d ds) → IsWithin (item_content place) d × AreItemsWithin place (suc i) ds
-item_within place i d ds h = let first = first_item_limits place i d ds h.limits in (is_within (item_content place) d first.0 h.ascend.0, record { limits = first.1; ascend = h.ascend.1 })
-
 abbrev pub names_of : Members → List (List ℕ)
 names_of no_members = []
 names_of (member k d ms) = k ∷ names_of ms
@@ -129,31 +89,28 @@ names_counted (member k d ms) = ap suc (names_counted ms)
 -- no static arrays are too many, no more entries than the place allows, and no ranges too many
 pub fitting_parts : (place : Place) (d : Data) → fits (At place) d ≡ true → (arrays_fit place d ≡ true) × (at_most (entries_of place) (count_of d) ≡ true) × (ranges_fit place d ≡ true)
 unfolding fits place_fits
-fitting_parts place d e =
-    let p = and_parts (arrays_fit place d) (at_most (entries_of place) (count_of d) && ranges_fit place d) e in
-    let q = and_parts (at_most (entries_of place) (count_of d)) (ranges_fit place d) p.1 in
-    (p.0, q.0, q.1)
+fitting_parts place d e = grind (arith, nat_tests, e)
 
 none_fit : (o : Option Entries) → at_most o 0 ≡ true
 none_fit o =
     by_found (λ (most : Option ℕ). option_map_or (nat_le 0) most true ≡ true) (option_and_then (λ (e : Entries). e.most) o) (λ is. refl) (λ n is. le-leb 0 n (omega arith))
 
-object_or_none : (place : Place) (d : Data) → IsOwn place → IsWithin (At place) d → AreWithin place (unwrap_or (as_object d) no_members) × (at_most (entries_of place) (members_len (unwrap_or (as_object d) no_members)) ≡ true)
-object_or_none place (object ms) own h = (object_within place place ms (own.own ms) h, (fitting_parts place (object ms) h.fitting).1)
+object_or_none : (place : Place) (d : Data) → IsObject place → IsWithin (At place) d → AreWithin place (unwrap_or (as_object d) no_members) × (at_most (entries_of place) (members_len (unwrap_or (as_object d) no_members)) ≡ true)
+object_or_none place (object ms) own h = (object_within place place ms (own nothing (object ms) ms).1 h, (fitting_parts place (object ms) h.fitting).1)
 object_or_none place _ own h = (record { limits = refl; in_order = tt; ascend = tt }, none_fit (entries_of place))
 
 -- the properties of an object or the entries of a map, no more than the place allows; left out, there are none
-pub all_within : (place : Place) {inner : Place} (name : List ℕ) {presence : Presence} → HasRow place name presence (At inner) → OwnPlace true inner → (ms : Members) → AreWithin place ms
+pub all_within : (place : Place) {inner : Place} (name : List ℕ) {presence : Presence} → HasRow place name presence (At inner) → IsObject inner → (ms : Members) → AreWithin place ms
     → AreWithin inner (properties name ms) × (at_most (entries_of inner) (members_len (properties name ms)) ≡ true)
 unfolding properties object_at
 all_within place {inner = inner} name row own ms h =
     by_found (λ (o : Option Data). AreWithin inner (unwrap_or (option_and_then as_object o) no_members) × (at_most (entries_of inner) (members_len (unwrap_or (option_and_then as_object o) no_members)) ≡ true)) (optional name ms)
-    (λ is. (record { limits = refl; in_order = tt; ascend = tt }, none_fit (entries_of inner))) (λ d is. object_or_none inner d (is_own own) (optional_within place name (At inner) row ms d h is))
+    (λ is. (record { limits = refl; in_order = tt; ascend = tt }, none_fit (entries_of inner))) (λ d is. object_or_none inner d own (optional_within place name (At inner) row ms d h is))
 
 -- the properties of an object that has no flaw have none; left out, there are none
-pub flaws_in : (k : Known) (around : Place) {inner : Place} (name : List ℕ) {presence : Presence} → HasRow around name presence (At inner) → OwnPlace true inner → (ms : Members) → member_flaws k around ms ≡ [] → member_flaws k inner (properties name ms) ≡ []
+pub flaws_in : (k : Known) (around : Place) {inner : Place} (name : List ℕ) {presence : Presence} → HasRow around name presence (At inner) → IsOwn inner → (ms : Members) → member_flaws k around ms ≡ [] → member_flaws k inner (properties name ms) ≡ []
 unfolding properties object_at
 flaws_in k around {inner = inner} name row own ms f =
     by_found (λ (o : Option Data). member_flaws k inner (unwrap_or (option_and_then as_object o) no_members) ≡ []) (optional name ms) (λ is. refl) (λ d is.
-    let (os, same, rows) = held_at k inner d (is_object own) (optional_sound k around name (At inner) ms d row f is).value in
-    subst (λ x. member_flaws k inner (unwrap_or (as_object x) no_members) ≡ []) (sym same) (subst (λ j. member_flaws j inner os ≡ []) ((is_own own).known k os) rows.flaws))
+    let (os, same, rows) = held_at k inner d own.0 (optional_sound k around name (At inner) ms d row f is).value in
+    subst (λ x. member_flaws k inner (unwrap_or (as_object x) no_members) ≡ []) (sym same) (subst (λ j. member_flaws j inner os ≡ []) (own.1 k os) rows.flaws))

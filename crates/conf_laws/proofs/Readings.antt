@@ -1,7 +1,7 @@
 -- What small steps and readings say that went well; what is computed from the first property of a name; and what holds of a field type
 -- where it holds of its element.
-use Rattle.std.proofs.Common.{◌≡◌, ℕ, Bool, true, false, List, Option, Some, None, is_some, refl, ap, [], ◌∷◌, ◌++◌, cond, Ok, Err, Ordering, Less, Equal, Greater, nat_cmp, is_eq, sym, subst, ◌∙◌, inl, inr, option_map, option_and_then, codes}
-use Rattle.conf_laws.proofs.Words.{is_byte, is_null, HasMember, Place, is_unsigned_integer, is_static_array, is_dynamic_array, times, elements, elements_in_array, natural_in, has_bits, element_has_bits, Flaw, given, optional, proved, as_natural, Data, string, object, Members, null, no_members, member, get_member, as_object, as_str, false≢true, nat_list_cmp_total, tied_itself, is_eq-slice_cmp, same_Some, bytes_eq-Decides, slice_cmp, AllByRecursion, option_map_or, match_ordering, bytes_eq, field_type, element, natural}
+use Rattle.std.proofs.Common.{arith, ◌≡◌, ℕ, Bool, true, false, List, Option, Some, None, is_some, refl, ap, [], ◌∷◌, ◌++◌, cond, Ok, Err, sym, subst, ◌∙◌, inl, inr, option_map, option_and_then, codes}
+use Rattle.conf_laws.proofs.Words.{is_byte, is_null, HasMember, Place, is_unsigned_integer, is_static_array, is_dynamic_array, times, elements, elements_in_array, natural_in, has_bits, element_has_bits, Flaw, given, optional, proved, as_natural, Data, string, object, Members, no_members, member, get_member, as_object, as_str, nat_list_cmp_total, tied_itself, is_eq-slice_cmp, bytes_eq-Decides, AllByRecursion, option_map_or, bytes_eq, field_type, element, natural}
 use Rattle.conf_laws.proofs.Words.places
 
 pub some_none : {A P : Type 0} (o : Option A) (x : A) → o ≡ Some x → o ≡ None → P
@@ -11,8 +11,7 @@ pub some_same : {A : Type 0} (o : Option A) (x y : A) → o ≡ Some x → o ≡
 some_same o x y p q = cc
 
 pub some_there : {A : Type 0} (o : Option A) → is_some o ≡ true → (x : A) × (o ≡ Some x)
-some_there None e = absurd cc
-some_there (Some x) e = (x, refl)
+some_there o e = grind (arith, e)
 
 -- something is said, of which this holds
 abbrev pub Says : {A : Type 0} → Option A → (A → Type 0) → Type 0
@@ -40,21 +39,17 @@ all_joined P (x ∷ xs) ys h k = (h.0, all_joined P xs ys h.1 k)
 -- ---- what a look-up says of the property
 
 pub object_there : (o : Option Data) (ms : Members) → option_and_then as_object o ≡ Some ms → o ≡ Some (object ms)
-object_there (Some (object ns)) ms e = ap (λ x. Some (object x)) (same_Some ns ms e)
-object_there _ ms e = absurd cc
+object_there o ms e = grind (arith, e)
 
 pub byte_object : (o : Option Data) → is_byte o ≡ true → (ms : Members) × (o ≡ Some (object ms))
-byte_object (Some (object ms)) e = (ms, refl)
-byte_object _ e = absurd cc
+byte_object o e = grind (arith, e)
 
 pub word_there : (o : Option Data) (w : List ℕ) → option_and_then as_str o ≡ Some w → o ≡ Some (string w)
-word_there (Some (string s)) w e = ap (λ x. Some (string x)) (same_Some s w e)
-word_there _ w e = absurd cc
+word_there o w e = grind (arith, e)
 
 given_natural : (o : Option Data) → option_and_then as_natural (given o) ≡ option_and_then as_natural o
 unfolding as_natural
-given_natural (Some (object ns)) = refl
-given_natural _ = refl
+given_natural o = grind arith
 
 pub same_natural : (name : List ℕ) (ms : Members) → natural name ms ≡ natural_in name ms
 unfolding natural natural_in
@@ -64,43 +59,30 @@ same_natural name ms = given_natural (get_member name ms)
 
 -- a class that is told is the one that it is
 pub class_told : (is_such : Place → Bool) (class : Place) → ((c : Place) → is_such c ≡ true → c ≡ class) → (o : Option Place) → option_map_or is_such o false ≡ true → o ≡ Some class
-class_told is_such class same (Some c) e = ap Some (same c e)
-class_told is_such class same None e = absurd cc
+class_told is_such class same o e = grind (arith, same, e)
 
 pub only_unsigned : (c : Place) → is_unsigned_integer c ≡ true → c ≡ places.UnsignedInteger
-only_unsigned places.UnsignedInteger e = refl
-only_unsigned _ e = absurd cc
+only_unsigned c e = grind (arith, e)
 
 pub only_static : (c : Place) → is_static_array c ≡ true → c ≡ places.StaticArray
-only_static places.StaticArray e = refl
-only_static _ e = absurd cc
+only_static c e = grind (arith, e)
 
 pub only_dynamic : (c : Place) → is_dynamic_array c ≡ true → c ≡ places.DynamicArray
-only_dynamic places.DynamicArray e = refl
-only_dynamic _ e = absurd cc
+only_dynamic c e = grind (arith, e)
 
 -- what is answered where a test fails
 pub under_no_test : {A : Type 0} (b : Bool) (x y : A) (flaw : Flaw) → cond b (Err flaw) (Ok x) ≡ Ok y → b ≡ false
-under_no_test true x y flaw e = absurd cc
-under_no_test false x y flaw e = refl
+under_no_test b x y flaw e = grind (arith, e)
 
 -- what is there and is not null
 pub optional_found : (name : List ℕ) (ms : Members) (d : Data) → get_member name ms ≡ Some d → is_null d ≡ false → optional name ms ≡ Some d
-optional_found name ms null found some = absurd cc
-optional_found name ms d found some = ap given found
+optional_found name ms d found some = grind (arith, found, some)
 
 -- ---- what is at a name
 
 -- the first member of a name is found, and another one is passed over
 found_here : (name k : List ℕ) (d : Data) (ms : Members) → get_member name (member k d ms) ≡ cond (bytes_eq k name) (Some d) (get_member name ms)
-found_here name k d ms = by_test (λ (b : Bool). get_member name (member k d ms) ≡ cond b (Some d) (get_member name ms)) (bytes_eq k name) (λ is.
-    let same : k ≡ name = (bytes_eq-Decides k name).0 is in
-    ap (λ o. match_ordering o (get_member name ms) (Some d) (get_member name ms)) (ap (slice_cmp nat_cmp name) same ∙ tied_itself nat_list_cmp_total name)) (λ other. go other (slice_cmp nat_cmp name k) refl)
-  where
-    go : bytes_eq k name ≡ false → (o : Ordering) → slice_cmp nat_cmp name k ≡ o → match_ordering o (get_member name ms) (Some d) (get_member name ms) ≡ get_member name ms
-    go other Less c = refl
-    go other Equal c = absurd (false≢true (sym other ∙ (bytes_eq-Decides k name).1 (sym ((bytes_eq-Decides name k).0 (sym (is_eq-slice_cmp name k) ∙ ap is_eq c)))))
-    go other Greater c = refl
+found_here name k d ms = grind (arith, bytes_eq-Decides k name, bytes_eq-Decides name k, is_eq-slice_cmp name k, tied_itself nat_list_cmp_total name)
 
 -- what is computed from the first property of a name, and else from none
 pub at_name : {X : Type 0} (name : List ℕ) (walk : Members → X) (made : Option Data → X) → walk no_members ≡ made None → ((k : List ℕ) (d : Data) (ms : Members) → walk (member k d ms) ≡ cond (bytes_eq k name) (made (Some d)) (walk ms))

@@ -1,16 +1,15 @@
 -- What an object and its properties are that have no flaw: its class may stand where it stands, a needed property is there, and each
 -- property that is there is what its row asks for.
-use Rattle.std.proofs.Common.{codes, unwrap_or, arith, ◌≡◌, ◌++◌, ℕ, Bool, true, false, cond, List, [], ◌∷◌, map, Option, Some, None, Result, Ok, Err, refl, sym, subst, ◌∙◌, suc, option_map, option_and_then, ap}
+use Rattle.std.proofs.Common.{codes, unwrap_or, arith, ◌≡◌, ◌++◌, ℕ, Bool, true, false, cond, List, [], ◌∷◌, map, Option, Some, None, Result, Ok, refl, sym, subst, ◌∙◌, suc, option_map, option_and_then, ap}
 use Rattle.conf_laws.proofs.Readings.{at_found, optional_found, by_found, by_test}
-use Rattle.conf_laws.proofs.Words.{Entries, is_by_index, and-false, wanted, entries_of, class_words, class_in, admits_class, presence_under, Told, rows_of, row_in, content_under, Place, At, Content, Needed, Presence, class_named, class_of, class_said, told_by, class_rule, all_there, resolved_content, is_left_out, left_out, is_needed, is_null, property_flaws, inner_flaws, member_flaws, content_flaws, item_flaws, rows_there, row_there, orders_there, admitted, other_class, itself_of, any_object, Known, inside, behind, with_taken, key_of, with_names, place_of_properties, item_content, is_position, own_place, shape_of, Flaw, key, within, index, here, optional, given, ◌>>=◌, at, needed, text_of, wanted_found, found_there, both_read, read_there, is_passed, Data, null, object, Members, member, Items, item, get_member, as_object, as_str, nat_tests, bytes_eq-Decides, bytes_eq, object_at as object_in, ⊤}
+use Rattle.conf_laws.proofs.Words.{Entries, is_by_index, and-false, wanted, entries_of, admits_class, presence_under, Told, rows_of, row_in, content_under, Place, At, Content, Needed, Presence, class_of, told_by, class_rule, all_there, resolved_content, is_left_out, left_out, is_needed, is_null, property_flaws, inner_flaws, member_flaws, content_flaws, item_flaws, rows_there, row_there, orders_there, admitted, itself_of, any_object, Known, inside, behind, with_taken, key_of, with_names, place_of_properties, item_content, is_position, own_place, shape_of, Flaw, key, within, index, optional, ◌>>=◌, needed, both_read, Data, object, Members, member, Items, item, no_members, get_member, as_object, nat_tests, bytes_eq-Decides, bytes_eq, object_at as object_in, ⊤}
 use Rattle.conf_laws.proofs.Words.places
 use Rattle.conf_laws.proofs.Words.contents
 
 -- ---- lists of flaws that are empty
 
 pub told_none : (r : Result ⊤ Flaw) → told_by r ≡ [] → r ≡ Ok tt
-told_none (Ok tt) e = refl
-told_none (Err f) e = absurd cc
+told_none r e = grind (arith, e)
 
 pub both_none : {A : Type 0} (xs ys : List A) → xs ++ ys ≡ [] → (xs ≡ []) × (ys ≡ [])
 both_none [] ys e = (refl, e)
@@ -91,12 +90,7 @@ property_sound k place name content ms d row e found there =
 -- ---- a property that may be left out
 
 pub optional_there : (name : List ℕ) (ms : Members) (d : Data) → optional name ms ≡ Some d → (get_member name ms ≡ Some d) × (is_null d ≡ false)
-optional_there name ms d e = go (get_member name ms) refl e
-  where
-    go : (o : Option Data) → get_member name ms ≡ o → given o ≡ Some d → (get_member name ms ≡ Some d) × (is_null d ≡ false)
-    go None f g = absurd cc
-    go (Some null) f g = absurd cc
-    go (Some v) f g = (f ∙ g, subst (λ x. is_null x ≡ false) (let same : v ≡ d = cc in same) refl)
+optional_there name ms d e = grind (arith, e)
 
 -- a property that is there and is not null is sound at what it is
 pub optional_sound : (k : Known) (place : Place) (name : List ℕ) {presence : Presence} (content : Content) (ms : Members) (d : Data) → HasRow place name presence content
@@ -109,8 +103,7 @@ optional_sound k place name content ms d row e found =
 -- ---- an object at a property
 
 pub object_read : (d : Data) (step : Members → Result ⊤ Flaw) → (wanted (as_object d) >>= step) ≡ Ok tt → (ms : Members) × (d ≡ object ms)
-object_read (object ms) step e = (ms, refl)
-object_read _ step e = absurd cc
+object_read d step e = grind (arith, e)
 
 -- a value at a place of objects is an object that is sound
 pub object_at : (k : Known) (place : Place) (d : Data) → ContentSound k (At place) d → itself_of k (At place) d ≡ any_object d → (ms : Members) × (d ≡ object ms) × ObjectSound k place ms
@@ -129,10 +122,6 @@ rows_sound k place rows ms is h = subst (λ p. RowsSound (inside p ms k) p ms) i
 
 -- ---- a needed property
 
-row_found : (row : Told) (ms : Members) → is_needed row.presence ≡ true → row_there ms row ≡ Ok tt → (d : Data) × (get_member row.name ms ≡ Some d)
-row_found row ms needed e =
-    by_found (λ (o : Option Data). (d : Data) × (get_member row.name ms ≡ Some d)) (get_member row.name ms) (λ f. absurd (let h = rw (needed, f) at e in cc)) (λ d f. (d, f))
-
 found_among : (name : List ℕ) (ms : Members) (rows : List Told) (row : Told) → rows_there ms rows ≡ Ok tt → row_in name rows ≡ Some row → is_needed row.presence ≡ true → (d : Data) × (get_member name ms ≡ Some d)
 found_among name ms [] row e f needed = absurd cc
 found_among name ms (r ∷ rows) row e f needed =
@@ -140,7 +129,9 @@ found_among name ms (r ∷ rows) row e f needed =
     by_test (λ (b : Bool). cond b (Some r) (row_in name rows) ≡ Some row → (d : Data) × (get_member name ms ≡ Some d)) (bytes_eq r.name name)
     (λ is g.
     let same : r ≡ row = cc in
-    subst (λ n. (d : Data) × (get_member n ms ≡ Some d)) ((bytes_eq-Decides r.name name).0 is) (row_found r ms (ap (λ x. is_needed x.presence) same ∙ needed) parts.1))
+    let must = ap (λ x. is_needed x.presence) same ∙ needed in
+    subst (λ n. (d : Data) × (get_member n ms ≡ Some d)) ((bytes_eq-Decides r.name name).0 is)
+    (by_found (λ (o : Option Data). (d : Data) × (get_member r.name ms ≡ Some d)) (get_member r.name ms) (λ none. grind (arith, nat_tests, must, none, parts.1)) (λ d there. (d, there))))
     (λ is g. found_among name ms rows row parts.2 g needed) f
 
 pub needed_sound : (k : Known) (place : Place) (name : List ℕ) (content : Content) (ms : Members) → HasRow place name Needed content → RowsSound k place ms → (d : Data) × (get_member name ms ≡ Some d) × PropertySound k place name content d
@@ -164,10 +155,7 @@ no_rows _ name entries is = cc
 entries_lead : (place : Place) (name : List ℕ) (entries : Entries) → entries_of place ≡ Some entries → is_by_index entries.keys ≡ false → content_under place name ≡ Some entries.content
 unfolding content_under entries_of rows_of
 entries_lead places.Environment name entries is named = ap (option_map (λ (e : Entries). e.content)) is
-entries_lead _ name entries is named =
-    let content = ap (option_map (λ (e : Entries). e.content)) is in
-    let keys = ap (option_map (λ (e : Entries). is_by_index e.keys)) is in
-    cc
+entries_lead _ name entries is named = grind (arith, is, named)
 
 pub map_leads : (place : Place) (name : List ℕ) (content : Content) → IsMapOf place content → content_under place name ≡ Some content
 map_leads place name content (entries, is, named, same) = entries_lead place name entries is named ∙ ap Some same
@@ -181,18 +169,12 @@ first_entry k place name content d ms map e =
     (property_here k place name content d resolved (ap (λ o. left_out o d) (no_rows place name map.0 map.1)) both.0, both.1)
 
 admitted_class : (place : Place) (o : Option Place) → admitted place o ≡ Ok tt → (class : Place) × (o ≡ Some class) × (admits_class place class ≡ true)
-admitted_class place None e = absurd cc
-admitted_class place (Some class) e = (class, refl, (is_passed (admits_class place class) tt tt (here (other_class place)) e).0)
+admitted_class place o e = grind (arith, e)
 
 -- the class that a field type has where it stands
 has_class : (place : Place) (ms : Members) → is_position place ≡ true → class_rule place ms ≡ Ok tt → (class : Place) × (class_of ms ≡ Some class) × (admits_class place class ≡ true)
 unfolding class_rule class_of
-has_class place ms position e =
-    let ruled = subst (λ b. cond b (needed (codes "class") ms >>= (λ d. at (key (codes "class")) (text_of d) >>= (λ w. admitted place (class_in w class_words)))) (Ok tt) ≡ Ok tt) position e in
-    let d = both_read (needed (codes "class") ms) _ tt ruled in
-    let w = both_read (at (key (codes "class")) (text_of d.0)) _ tt d.2 in
-    let c = admitted_class place (class_in w.0 class_words) w.2 in
-    (c.0, ap class_said (found_there (codes "class") ms d.0 d.1) ∙ ap class_named (wanted_found (as_str d.0) w.0 (read_there (key (codes "class")) (text_of d.0) w.0 w.1)) ∙ c.1, c.2)
+has_class place ms position e = grind (arith, position, e)
 
 -- ---- a field type where one may stand
 
@@ -215,20 +197,17 @@ type_sound k place ms position h =
     record { class = c.0; is = c.1; may_stand = c.2; rows = rows_sound k place c.0 ms (class_place place ms c.0 position c.1) h; shape = h.shape }
 
 -- a place of objects with rows of its own
-pub record IsObject (place : Place) : Type 0 where
-  pub form : (k : Known) (d : Data) → itself_of k (At place) d ≡ any_object d
-  pub own : (ms : Members) → place_of_properties place ms ≡ place
+abbrev pub IsObject : Place → Type 0
+IsObject place = (k : Known) (d : Data) (ms : Members) → (itself_of k (At place) d ≡ any_object d) × (place_of_properties place ms ≡ place)
 
 -- an object that is there, with its rows
 pub held_at : (k : Known) (place : Place) (d : Data) → IsObject place → ContentSound k (At place) d → (ms : Members) × (d ≡ object ms) × RowsSound (inside place ms k) place ms
-held_at k place d o h = let (ms, is, sound) = object_at k place d h (o.form k d) in (ms, is, rows_sound k place place ms (o.own ms) sound)
+held_at k place d own h = let (ms, is, sound) = object_at k place d h (own k d no_members).0 in (ms, is, rows_sound k place place ms (own k d ms).1 sound)
 
-module _ (k : Known) (around place : Place) (name : List ℕ) (ms : Members) (row : HasRow around name Needed (At place)) (o : IsObject place) (h : RowsSound k around ms) where
-  -- a needed object is there
-  pub needed_object : (os : Members) × (object_in name ms ≡ Some os) × RowsSound (inside place os k) place os
-  unfolding object_in
-  needed_object =
-      let (d, there, sound) = needed_sound k around name (At place) ms row h in
-      let (os, same, rows) = held_at k place d o sound.value in
-      let found = optional_found name ms (object os) (there ∙ ap Some same) refl in
-      (os, ap (option_and_then as_object) found, rows)
+-- a needed object is there
+pub needed_object : (k : Known) (around place : Place) (name : List ℕ) (ms : Members) → HasRow around name Needed (At place) → IsObject place → RowsSound k around ms → (os : Members) × (object_in name ms ≡ Some os) × RowsSound (inside place os k) place os
+unfolding object_in
+needed_object k around place name ms row own h =
+    let (d, there, sound) = needed_sound k around name (At place) ms row h in
+    let (os, same, rows) = held_at k place d own sound.value in
+    (os, ap (option_and_then as_object) (optional_found name ms (object os) (there ∙ ap Some same) refl), rows)

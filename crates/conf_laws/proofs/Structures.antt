@@ -1,14 +1,14 @@
 -- The members of a structure, structures and the extra members of a packet context that have no flaw say something; and where they pass no
 -- limit, that is what the rules allow. The names that members take are apart, and apart from names that were taken before.
-use Rattle.std.proofs.Common.{◌<◌, ◌≡◌, ◌%◌, ◌==◌, ◌&&◌, ℕ, nat_eq, Bool, true, false, cond, Some, nat_lt, nat_le, leb-true, arith, refl, sym, ap, subst, Option, Ok, ◌∙◌, ◌+◌, ◌||◌, List, [], ◌∷◌, ◌++◌, length, All, length-append, append_assoc, ◌⊎◌, suc, inl, inr, codes, unwrap_or, option_and_then}
+use Rattle.std.proofs.Common.{◌<◌, ◌≡◌, ◌%◌, ◌==◌, ◌&&◌, ℕ, nat_eq, Bool, true, false, cond, Some, nat_lt, nat_le, leb-true, arith, refl, sym, ap, subst, Option, Ok, ◌∙◌, ◌+◌, List, [], ◌∷◌, ◌++◌, length, All, length-append, append_assoc, ◌⊎◌, suc, inl, inr, codes, unwrap_or, option_and_then}
 use Rattle.conf_laws.proofs.Agreement.{taken_put}
 use Rattle.conf_laws.proofs.AllowedMaps.{plain_name}
 use Rattle.conf_laws.proofs.FieldTypes.{nest_allowed, type_says}
 use Rattle.conf_laws.proofs.Numbers.{alignment_or}
-use Rattle.conf_laws.proofs.Properties.{IsWithin, AreWithin, AreItemsWithin, object_within, property_within, optional_within, entry_within, item_within, fitting_parts, OwnPlace, is_own}
+use Rattle.conf_laws.proofs.Properties.{IsWithin, AreWithin, AreItemsWithin, object_within, property_within, optional_within, entry_within, is_within, first_item_limits, fitting_parts}
 use Rattle.conf_laws.proofs.Readings.{Says, proved_says, element_is, all_joined, under_no_test, optional_found, some_there, by_found, by_test}
 use Rattle.conf_laws.proofs.Sound.{HasRow, RowsSound, ContentSound, ObjectSound, object_sound, needed_sound, type_sound, class_place, object_at, content_sound, first_item, rows_sound, first_entry, optional_sound}
-use Rattle.conf_laws.proofs.Words.{chain_of, and_parts, is_alignment, rows_of, Presence, admits_class, is_dynamic_array, Place, At, entries_of, at_most, itself_of, form_of, Known, inside, is_position, inner_flaws, item_flaws, member_flaws, nothing, with_taken, take, is_taken, key_of, key_by, free_of, is_dynamic, class_of, class_of_member, elements, fits, arrays_fit, is_outermost, shape_of, with_names, names_beside, own_place, place_of_properties, item_content, Members, Data, object, get_member, optional, here, WrongKind, is_passed, members_len, items_len, both_read, plain_name_of, Items, no_items, item, no_members, member, array, as_array, as_object, eqb-true, false≢true, or_parts, All-push, All-nil, All-from_recursion, map-append, bytes_eq-Decides, IsDistinct, option_map_or, AllByRecursion, list_any, bytes_eq, field_type, element, object_at as object_named, list as list_in, member_type, member_said as member_of, behind_done, members_behind, made, align_for, listed, align_of, structure_of, structure, extra_members, names_in, own_names, IsPlainName, IsConfigMember, AreConfigMembers, IsConfigStruct, StructType, length_name, shown_members, Auto, AtMember, Plain, Dyn, MemberType}
+use Rattle.conf_laws.proofs.Words.{nat_tests, chain_of, and_parts, is_alignment, rows_of, Presence, admits_class, is_dynamic_array, Place, At, entries_of, at_most, itself_of, form_of, Known, inside, is_position, inner_flaws, item_flaws, member_flaws, nothing, with_taken, take, is_taken, key_of, key_by, free_of, is_dynamic, class_of, class_of_member, elements, fits, arrays_fit, is_outermost, shape_of, with_names, names_beside, own_place, place_of_properties, item_content, Members, Data, object, get_member, optional, here, WrongKind, is_passed, members_len, items_len, both_read, plain_name_of, Items, no_items, item, no_members, member, array, as_array, as_object, eqb-true, false≢true, or_parts, All-push, All-nil, All-from_recursion, map-append, bytes_eq-Decides, IsDistinct, option_map_or, AllByRecursion, list_any, bytes_eq, field_type, element, object_at as object_named, list as list_in, member_type, member_said as member_of, behind_done, members_behind, made, align_for, listed, align_of, structure_of, structure, extra_members, names_in, own_names, IsPlainName, IsConfigMember, AreConfigMembers, IsConfigStruct, StructType, length_name, shown_members, Auto, AtMember, Plain, Dyn, MemberType}
 use Rattle.conf_laws.proofs.Words.places
 
 -- ---- what a member takes
@@ -54,9 +54,7 @@ keeps_taken name false taken names h = all_still_taken name taken names h
 -- a name that is free is none of those that are taken
 apart_from_taken : (taken : Members) (name : List ℕ) (names : List (List ℕ)) → is_taken taken name ≡ false → AreTaken taken names → list_any (bytes_eq name) names ≡ false
 apart_from_taken taken name [] free h = refl
-apart_from_taken taken name (other ∷ names) free h =
-    by_test (λ (b : Bool). list_any (bytes_eq name) names ≡ false → (b || list_any (bytes_eq name) names) ≡ false) (bytes_eq name other)
-    (λ is rest. absurd (false≢true (sym free ∙ subst (λ n. is_taken taken n ≡ true) (sym ((bytes_eq-Decides name other).0 is)) h.0))) (λ is rest. rest) (apart_from_taken taken name names free h.1)
+apart_from_taken taken name (other ∷ names) free h = grind (arith, nat_tests, bytes_eq-Decides name other, apart_from_taken taken name names free h.1, h.0, free)
 
 abbrev AreApart : List (List ℕ) → List (List ℕ) → Type 0
 AreApart before names = AllByRecursion (λ name. list_any (bytes_eq name) before ≡ false) names
@@ -111,10 +109,6 @@ record AreNamed (before : List (List ℕ)) (ms : List (List ℕ × MemberType)) 
   names_taken : AreTaken taken (names_in ms)
   shown : AreShown before (shown_of ms) taken
 
-none_named : (before : List (List ℕ)) (taken : Members) → AreTaken taken before → AreNamed before [] taken
-unfolding shown_members IsDistinct
-none_named before taken h = record { names = All-nil IsPlainName; names_taken = tt; shown = record { before_taken = h; all_taken = tt; distinct = tt; free = tt } }
-
 one_more_named : (before : List (List ℕ)) (ms : List (List ℕ × MemberType)) (taken : Members) (name : List ℕ) (b : Bool) (m : MemberType) → AreNamed before ms taken → IsPlainName name → is_taken taken name ≡ false → (b && is_taken taken (length_name name)) ≡ false
     → names_by b name ≡ names_of (name, m) → AreNamed before (ms ++ (name, m) ∷ []) (with_member name b taken)
 one_more_named before ms taken name b m h plain free long same =
@@ -148,9 +142,7 @@ elements_say k ms h =
 
 member_class : (class : Place) → admits_class places.MemberType class ≡ true → (class ≡ places.DynamicArray) ⊎ ((is_dynamic_array class ≡ false) × (admits_class places.ElementType class ≡ true))
 unfolding admits_class
-member_class places.DynamicArray a = inl refl
-member_class places.Structure a = absurd (false≢true a)
-member_class _ a = inr (refl, a)
+member_class class a = grind (arith, a)
 
 member_says : (k : Known) (ms : Members) → ObjectSound k places.MemberType ms → Says (member_type ms) (λ m. IsTyped (option_map_or is_dynamic_array (class_of ms) false) m × (IsWithin (At places.MemberType) (object ms) → IsConfigMember m))
 unfolding member_type is_position inside fits arrays_fit is_outermost
@@ -181,7 +173,7 @@ told_says k x h =
     let dynamic : is_dynamic x ≡ option_map_or is_dynamic_array (class_of ys) false =
     ap (λ z. option_map_or is_dynamic_array (class_of_member z) false) same ∙ ap (λ q. option_map_or is_dynamic_array (option_and_then class_of (option_and_then as_object q)) false) found in
     let allowed : IsWithin (At places.Member) x → IsConfigMember m.0 = λ good.
-    let own = object_within places.Member places.Member os ((is_own OwnPlace.named_member).own os) (subst (λ z. IsWithin (At places.Member) z) same good) in
+    let own = object_within places.Member places.Member os refl (subst (λ z. IsWithin (At places.Member) z) same good) in
     m.2.1 (property_within places.Member (codes "field-type") (At places.MemberType) (refl, refl) os (object ys) own found) in
     (m.0, ap member_of same ∙ ap (λ q. option_and_then member_type (option_and_then as_object q)) there ∙ m.1, ((λ name. ap (λ b. names_by b name) dynamic ∙ m.2.0 name), allowed))
 
@@ -226,17 +218,16 @@ module _ (k : Known) (place : Place) (before : List (List ℕ)) (entries : item_
       let step : members_behind done (item (object ms) ds) ≡ members_behind more ds = rw (m.1, free) refl in
       let counted = rest.2.counted in
       let types : All (λ (n : List ℕ × MemberType). IsConfigMember n.1) done → AreItemsWithin place i (item d ds) → All (λ (n : List ℕ × MemberType). IsConfigMember n.1) rest.0 = λ all good.
-      let items = item_within place i d ds good in
-      let first = subst (λ x. IsWithin (At places.Entry) x) s.2 (subst (λ c. IsWithin c d) entries items.0) in
-      let value = (entry_within places.Entry (At places.Member) (_, refl, refl, refl) name s.1 no_members (object_within places.Entry places.Entry ms ((is_own OwnPlace.entry).own ms) first)).0 in
-      rest.2.types (All-push (λ (n : List ℕ × MemberType). IsConfigMember n.1) done (name, m.0) all (m.2.1 value)) items.1 in
+      let limits = first_item_limits place i d ds good.limits in
+      let first = subst (λ x. IsWithin (At places.Entry) x) s.2 (subst (λ c. IsWithin c d) entries (is_within (item_content place) d limits.0 good.ascend.0)) in
+      let value = (entry_within places.Entry (At places.Member) (_, refl, refl, refl) name s.1 no_members (object_within places.Entry places.Entry ms refl first)).0 in
+      rest.2.types (All-push (λ (n : List ℕ × MemberType). IsConfigMember n.1) done (name, m.0) all (m.2.1 value)) (record { limits = limits.1; ascend = good.ascend.1 }) in
       let read : AreRead place before i done (item d ds) rest.0 = record { after = rest.2.after; named = rest.2.named; counted = omega (arith, counted, length-append done ((name, m.0) ∷ [])); types = types } in
       (rest.0, ap (λ x. members_behind done (item x ds)) s.2 ∙ step ∙ rest.1, read)
 
 is_list : (d : Data) → form_of nothing places.Members d ≡ Ok tt → (ds : Items) × (d ≡ array ds)
 unfolding form_of
-is_list (array ds) e = (ds, refl)
-is_list _ e = absurd cc
+is_list d e = grind (arith, e)
 
 no_members_allowed : AreConfigMembers []
 unfolding shown_members IsDistinct
@@ -249,10 +240,12 @@ module _ (k : Known) (around : Place) {place : Place} (name : List ℕ) {presenc
   IsListed members = AreApart before (shown_of members) × (AreWithin around ms → AreConfigMembers members)
 
   found_says : (d : Data) → optional name ms ≡ Some d → Says (members_behind [] (unwrap_or (as_array d) no_items)) IsListed
+  unfolding shown_members IsDistinct
   found_says d is =
+      let none : AreNamed before [] (names_beside place) = record { names = All-nil IsPlainName; names_taken = tt; shown = record { before_taken = taken; all_taken = tt; distinct = tt; free = tt } } in
       let sound = (optional_sound k around name (At place) ms d row f is).value in
       let s = is_list d (sym (form d) ∙ sound.itself) in
-      let all = items_say k place before entries s.0 (names_beside place) 0 [] (none_named before (names_beside place) taken) (subst (λ x. inner_flaws k (At place) x ≡ []) s.1 sound.inner) in
+      let all = items_say k place before entries s.0 (names_beside place) 0 [] none (subst (λ x. inner_flaws k (At place) x ≡ []) s.1 sound.inner) in
       let named = all.2.named in
       let counted = all.2.counted in
       let allowed : AreWithin around ms → AreConfigMembers all.0 = λ h.
@@ -274,8 +267,7 @@ made_says members align a =
     proved_says (λ s. (s.members ≡ members) × (s.min_align ≡ align)) (nat_lt 0 align) _ p.0 (λ _. proved_says (λ s. (s.members ≡ members) × (s.min_align ≡ align)) (4096 % align == 0) _ p.1 (λ _. (_, refl, (refl, refl))))
 
 aligned : (members : List (List ℕ × MemberType)) (align : ℕ) → is_alignment align ≡ true → is_alignment (align_for members align) ≡ true
-aligned [] align a = refl
-aligned (m ∷ members) align a = a
+aligned members align a = grind (arith, a)
 
 -- a structure without members aligns nothing
 struct_of : (members : List (List ℕ × MemberType)) (align : ℕ) (s : StructType) → (s.members ≡ members) × (s.min_align ≡ align_for members align) → AreConfigMembers members → IsConfigStruct s
@@ -290,8 +282,7 @@ object_says k ms h =
 
 structure_class : (class : Place) → admits_class places.StructureType class ≡ true → class ≡ places.Structure
 unfolding admits_class
-structure_class places.Structure a = refl
-structure_class _ a = absurd (false≢true a)
+structure_class class a = grind (arith, a)
 
 type_structure : (k : Known) (d : Data) → ContentSound k (At places.StructureType) d → Says (option_map_or structure_of (as_object d) (made [] 1)) (λ s. IsWithin (At places.StructureType) d → IsConfigStruct s)
 unfolding itself_of form_of is_position inside

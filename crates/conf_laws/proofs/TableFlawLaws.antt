@@ -1,63 +1,36 @@
 -- Each flaw of the walk over a configuration's objects is one of them by the table; and where the walk tells of nothing the table knows of
 -- none.
-use Rattle.std.proofs.Common.{codes, ◌≡◌, ◌≢◌, ◌⊎◌, ◌&&◌, ◌||◌, ◌↔◌, ◌+◌, ℕ, zero, suc, Bool, true, false, cond, List, Option, Some, None, is_some, IsSome, inl, inr, refl, sym, ap, subst, ◌∙◌, not, [], ◌∷◌, Contains, Ok, Err, arith, ◌++◌, map, Result, unwrap_or}
-use Rattle.conf_laws.proofs.Agreement.{Agrees, IsTrue, nothing_agrees, inside_agrees, behind_agrees, Takes, takes_beside, takes_further, item_agrees, IsFrom, from_start, from_next, item_here}
+use Rattle.std.proofs.Common.{IsTrue, codes, ◌≡◌, ◌≢◌, ◌⊎◌, ◌↔◌, ◌+◌, ℕ, zero, suc, Bool, true, false, cond, List, Option, Some, None, is_some, inl, inr, refl, sym, ap, subst, ◌∙◌, not, [], ◌∷◌, Contains, Ok, Err, arith, ◌++◌, map, Result, unwrap_or}
+use Rattle.conf_laws.proofs.Agreement.{Agrees, nothing_agrees, inside_agrees, behind_agrees, Takes, takes_beside, takes_further, item_agrees, IsFrom, from_start, from_next, item_here}
 use Rattle.conf_laws.proofs.Numbers.{number_told}
-use Rattle.conf_laws.proofs.Readings.{byte_object, some_none, some_same, class_told, only_unsigned, only_static, element_bits, by_element, by_found, by_test}
+use Rattle.conf_laws.proofs.Readings.{byte_object, some_none, class_told, only_unsigned, only_static, element_bits, by_element, by_found, by_test}
 use Rattle.conf_laws.proofs.Sound.{no_rows, ObjectSound, object_sound, ContentSound, content_sound, flaws_at, property_here, first_flaws, first_item, optional_there}
-use Rattle.conf_laws.proofs.ValueFlawLaws.{IsJudged, then_judged, test_judged, none_there, number_there, number_found, class_word, word_excluded, value_judged, name_judged}
-use Rattle.conf_laws.proofs.Words.{both_read, refused_test, refused_here_or_next, IsTaken, is_taken, HasNumber, Around, Parts, HasBehind, member_of, item_of, IsPropertyOf, IsLeftOut, IsNoClassAt, HasNotItsRows, IsByte, IsIdentifier, HasNoBits, IsNoShapeAt, IsFlawOf, IsNoValueOf, IsNoNameAt, words_of_classes, class_words, class_in, admits_class, content_under, presence_under, Told, rows_of, Place, At, Content, Presence, class_named, class_of, class_said, other_class, may_inherit, resolved_content, is_needed, left_out, is_left_out, admitted, class_rule, row_there, rows_there, orders_there, all_there, told_by, property_flaws, inner_flaws, item_flaws, member_flaws, content_flaws, configuration_flaws, itself_of, Known, nothing, inside, behind, with_taken, key_of, names_beside, with_names, natural_in, is_position, place_of_properties, item_content, is_number, is_unsigned_integer, is_static_array, is_eight, is_byte, is_identifier, has_bits, element_has_bits, shape_of, Flaw, key, here, within, index, ◌>>=◌, at, wanted, needed, optional, given, text_of, HasMember, refusal, WrongKind, OutOfRange, Missing, Unknown, refused_where, lacks_refused, found_there, IsNoWordOf, as_natural, Data, null, object, Members, array, Items, no_items, item, no_members, member, get_member, get_item, as_str, nat_tests, true≢false, false≢true, and-false, and_parts, and_from, and_cases, or_parts, eq-eqb, All-nil, All-cons, All-map, All-append, All-weaker, All-contains, bytes_eq-Decides, All, option_map_or, bytes_eq, ⊤}
+use Rattle.conf_laws.proofs.ValueFlawLaws.{IsJudged, then_judged, test_judged, number_there, number_found, class_word, word_excluded, value_judged, name_judged}
+use Rattle.conf_laws.proofs.Words.{both_read, refused_here_or_next, IsTaken, is_taken, HasNumber, Around, Parts, HasBehind, member_of, item_of, IsPropertyOf, IsLeftOut, IsNoClassAt, HasNotItsRows, IsByte, IsIdentifier, HasNoBits, IsNoShapeAt, IsFlawOf, IsNoValueOf, IsNoNameAt, words_of_classes, class_words, class_in, admits_class, presence_under, Told, rows_of, Place, At, Content, Presence, class_named, class_of, class_said, other_class, resolved_content, left_out, is_left_out, admitted, class_rule, row_there, rows_there, orders_there, all_there, told_by, property_flaws, inner_flaws, item_flaws, member_flaws, content_flaws, configuration_flaws, itself_of, Known, nothing, inside, behind, with_taken, key_of, names_beside, with_names, natural_in, is_position, place_of_properties, item_content, is_number, is_unsigned_integer, is_static_array, is_eight, is_byte, is_identifier, has_bits, element_has_bits, shape_of, Flaw, key, here, within, index, ◌>>=◌, at, wanted, needed, optional, given, text_of, HasMember, refusal, WrongKind, OutOfRange, Missing, Unknown, lacks_refused, found_there, IsNoWordOf, as_natural, Data, null, object, Members, array, Items, no_items, item, no_members, member, get_member, get_item, as_str, nat_tests, true≢false, false≢true, and_cases, or_parts, eq-eqb, All-nil, All-cons, All-map, All-append, All-weaker, All-contains, bytes_eq-Decides, All, option_map_or, ⊤}
 use Rattle.conf_laws.proofs.Words.places
 use Rattle.conf_laws.proofs.Words.contents
 use Rattle.conf_laws.proofs.Words.presences
 
 -- ---- properties
 
-module _ (place : Place) (name : List ℕ) where
-  -- what an object inherits from is none of its properties
-  inherits : IsTrue (bytes_eq name (codes "$inherit") && may_inherit place) ↔ ((name ≡ codes "$inherit") × IsSome (presence_under place name))
-  inherits =
-      let named = bytes_eq-Decides name (codes "$inherit") in
-      let told : IsTrue (bytes_eq name (codes "$inherit") && may_inherit place) → (name ≡ codes "$inherit") × IsSome (presence_under place name) = λ e.
-      let p = and_parts (bytes_eq name (codes "$inherit")) (may_inherit place) e in (named.0 p.0, ap (λ n. is_some (presence_under place n)) (named.0 p.0) ∙ p.1) in
-      (told, λ (same, some). and_from (bytes_eq name (codes "$inherit")) (may_inherit place) (named.1 same) (ap (λ n. is_some (presence_under place n)) (sym same) ∙ some))
+-- what an object inherits from is none of its properties
+property : (place : Place) (name : List ℕ) (content : Content) → (resolved_content place name ≡ Some content) ↔ IsPropertyOf place name content
+unfolding resolved_content
+property place name content = grind (arith, nat_tests, bytes_eq-Decides name (codes "$inherit"))
 
-  property : (content : Content) → (resolved_content place name ≡ Some content) ↔ IsPropertyOf place name content
-  unfolding resolved_content
-  property content =
-      by_test (λ (b : Bool). (cond b None (content_under place name) ≡ Some content) ↔ IsPropertyOf place name content) (bytes_eq name (codes "$inherit") && may_inherit place)
-      (λ is. (λ f. absurd cc, λ p. absurd (p.1 (inherits.0 is)))) (λ is. (λ f. (f, λ both. false≢true (sym is ∙ inherits.1 both)), λ p. p.0))
-
--- the value of a presence that is asked for
-left_told : (o : Option Presence) (d : Data) → left_out o d ≡ true → (d ≡ null) × ((presence : Presence) × (o ≡ Some presence) × (presence ≢ presences.Needed))
-left_told None d e = absurd cc
-left_told (Some presences.Needed) d e = absurd cc
-left_told (Some presence) null e = (refl, (presence, refl, λ same. absurd cc))
-left_told (Some presence) d e = absurd cc
-
-told_left : (presence : Presence) → presence ≢ presences.Needed → left_out (Some presence) null ≡ true
-told_left presences.Needed other = absurd (other refl)
-told_left _ other = refl
-
-module _ (place : Place) (name : List ℕ) (d : Data) where
-  left : IsTrue (is_left_out place name d) ↔ IsLeftOut place name d
-  unfolding is_left_out
-  left = (left_told (presence_under place name) d, λ (is, other). ap (left_out (presence_under place name)) is ∙ ap (λ o. left_out o null) other.1 ∙ told_left other.0 other.2)
+-- a null of this presence stands for no value
+left : (o : Option Presence) (d : Data) → IsTrue (left_out o d) ↔ ((d ≡ null) × ((presence : Presence) × (o ≡ Some presence) × (presence ≢ presences.Needed)))
+left o d = grind arith
 
 -- ---- the class
 
 other_told : (place : Place) → ((place ≡ places.IdentifierFeature) × (other_class place ≡ OutOfRange)) ⊎ ((place ≢ places.IdentifierFeature) × (other_class place ≡ WrongKind))
 unfolding other_class
-other_told places.IdentifierFeature = inl (refl, refl)
-other_told _ = inr (λ same. absurd cc, refl)
+other_told place = grind arith
 
 module _ (place : Place) (ms : Members) where
   class_excluded : (d : Data) (w : List ℕ) (class : Place) (flaw : Flaw) → get_member (codes "class") ms ≡ Some d → as_str d ≡ Some w → class_in w class_words ≡ Some class → class_of ms ≡ Some class → admits_class place class ≡ true → ¬ IsNoClassAt place ms flaw
-  class_excluded d w class flaw there text found is holds (IsNoClassAt.no_class position (inl (none, same))) = some_none (get_member (codes "class") ms) d there none
-  class_excluded d w class flaw there text found is holds (IsNoClassAt.no_class position (inr (e, f, has, wrong, same))) =
-      word_excluded words_of_classes e w f (ap as_str (some_same (get_member (codes "class") ms) e d has there) ∙ text) ((class_word w).0 (ap is_some found)) wrong
-  class_excluded d w class flaw there text found is holds (IsNoClassAt.another_class c position elsewhere said other) = true≢false (sym holds ∙ ap (admits_class place) (some_same (class_of ms) class c is said) ∙ other)
-  class_excluded d w class flaw there text found is holds (IsNoClassAt.no_array c identifier said other) = true≢false (sym holds ∙ ap (admits_class place) (some_same (class_of ms) class c is said) ∙ other)
+  class_excluded d w class flaw there text found is holds wrong = grind (arith, word_excluded words_of_classes d w, (class_word w).0, there, text, found, is, holds, wrong)
 
   module _ (position : is_position place ≡ true) (d : Data) (there : get_member (codes "class") ms ≡ Some d) where
     word_judged : (w : List ℕ) → as_str d ≡ Some w → IsJudged (admitted place (class_in w class_words)) (IsNoClassAt place ms)
@@ -74,9 +47,7 @@ module _ (place : Place) (ms : Members) where
 
   no_position : (flaw : Flaw) → is_position place ≡ false → ¬ IsNoClassAt place ms flaw
   unfolding is_position
-  no_position flaw is (IsNoClassAt.no_class position says) = true≢false (sym position ∙ is)
-  no_position flaw is (IsNoClassAt.another_class c position elsewhere said other) = true≢false (sym position ∙ is)
-  no_position flaw is (IsNoClassAt.no_array c identifier said other) = true≢false (sym (ap is_position identifier) ∙ is)
+  no_position flaw is wrong = grind (arith, is, wrong)
 
   class_judged : IsJudged (class_rule place ms) (IsNoClassAt place ms)
   unfolding class_rule
@@ -89,16 +60,12 @@ module _ (place : Place) (ms : Members) where
 
 -- ---- what is missing
 
-needed_told : (p : Presence) → is_needed p ≡ true → p ≡ presences.Needed
-needed_told presences.Needed e = refl
-needed_told _ e = absurd cc
-
 module _ (ms : Members) where
-  row_refused : (rows : List Told) (flaw : Flaw) → rows_there ms rows ≡ Err flaw → (row : Told) × Contains rows row × (row_there ms row ≡ Err flaw)
+  row_refused : (rows : List Told) (flaw : Flaw) → rows_there ms rows ≡ Err flaw → (row : Told) × Contains rows row × (row.presence ≡ presences.Needed) × (get_member row.name ms ≡ None) × (flaw ≡ within (key row.name) (here Missing))
   row_refused [] flaw e = absurd cc
   row_refused (row ∷ rows) flaw e = elim (refused_here_or_next (row_there ms row) _ flaw e) [
-    | inl first ↦ (row, (0, omega arith, refl), first)
-    | inr (x, went, later) ↦ let (r, among, refused) = row_refused rows flaw later in (r, (suc among.0, omega (arith, among.1), among.2), refused)
+    | inl first ↦ let lacks : (row.presence ≡ presences.Needed) × (get_member row.name ms ≡ None) × (flaw ≡ within (key row.name) (here Missing)) = grind (arith, nat_tests, first) in (row, (0, omega arith, refl), lacks.0, lacks.1, lacks.2)
+    | inr (x, went, later) ↦ let (r, among, needed, none, same) = row_refused rows flaw later in (r, (suc among.0, omega (arith, among.1), among.2), needed, none, same)
   ]
 
   row_kept : (rows : List Told) (row : Told) → rows_there ms rows ≡ Ok tt → Contains rows row → row_there ms row ≡ Ok tt
@@ -108,21 +75,13 @@ module _ (ms : Members) where
 
   order_told : (place : Place) (flaw : Flaw) → orders_there place ms ≡ Err flaw → HasNotItsRows place ms flaw
   unfolding orders_there
-  order_told places.TraceType flaw e =
-      let (fails, same) = refused_test (is_some (optional (codes "trace-byte-order") ms) || is_some (optional (codes "native-byte-order") ms)) tt _ flaw e in
-      let none = or_parts (is_some (optional (codes "trace-byte-order") ms)) (is_some (optional (codes "native-byte-order") ms)) fails in
-      subst (HasNotItsRows places.TraceType ms) (sym same) (HasNotItsRows.no_byte_order refl (none_there _ none.0) (none_there _ none.1))
+  order_told places.TraceType flaw e = grind (arith, nat_tests, e, HasNotItsRows.no_byte_order)
   order_told _ flaw e = absurd cc
 
   missing_told : (place : Place) (flaw : Flaw) → all_there place ms ≡ Err flaw → HasNotItsRows place ms flaw
   unfolding all_there
   missing_told place flaw e = elim (refused_here_or_next (rows_there ms (rows_of place)) _ flaw e) [
-    | inl rows ↦
-        let (row, among, refused) = row_refused (rows_of place) flaw rows in
-        let (lacks, same) = refused_where (is_needed row.presence && not (is_some (get_member row.name ms))) tt (within (key row.name) (here Missing)) flaw refused in
-        let p = and_parts (is_needed row.presence) (not (is_some (get_member row.name ms))) lacks in
-        let none : is_some (get_member row.name ms) ≡ false = grind (arith, nat_tests) in
-        subst (HasNotItsRows place ms) (sym same) (HasNotItsRows.missing row among (needed_told row.presence p.0) (none_there (get_member row.name ms) none))
+    | inl rows ↦ let (row, among, needed, none, same) = row_refused (rows_of place) flaw rows in subst (HasNotItsRows place ms) (sym same) (HasNotItsRows.missing row among needed none)
     | inr (x, went, orders) ↦ order_told place flaw orders
   ]
 
@@ -133,59 +92,35 @@ has_number name ms n = (λ e. number_there name ms n (number_told (natural_in na
 
 given_number : (d : Data) (n : ℕ) → as_natural d ≡ Some n → given (Some d) ≡ Some d
 unfolding as_natural
-given_number null n e = absurd cc
-given_number _ n e = refl
+given_number d n e = grind (arith, e)
 
 eight : (ms : Members) → IsTrue (is_eight (optional (codes "alignment") ms)) ↔ ((optional (codes "alignment") ms ≡ None) ⊎ HasNumber (codes "alignment") ms 8)
-eight ms = (
-  by_found (λ (o : Option Data). is_eight o ≡ true → (optional (codes "alignment") ms ≡ None) ⊎ HasNumber (codes "alignment") ms 8) (optional (codes "alignment") ms)
-      (λ is f. inl is) (λ d is f. inr (d, (optional_there (codes "alignment") ms d is).0, number_told (as_natural d) 8 f)),
-  λ p. elim p [ inl none ↦ ap is_eight none | inr (d, there, is) ↦ ap is_eight (ap given there ∙ given_number d 8 is) ∙ ap (λ o. is_number o 8) is ],
-)
+eight ms = grind (arith, nat_tests, optional_there (codes "alignment") ms, number_told, given_number)
 
 byte : (ms : Members) → IsTrue (is_byte (Some (object ms))) ↔ IsByte ms
-byte ms =
-    let size = is_number (natural_in (codes "size") ms) 8 in
-    let align = is_eight (optional (codes "alignment") ms) in (
-      λ e. let p = and_parts (option_map_or is_unsigned_integer (class_of ms) false) (size && align) e in let q = and_parts size align p.1 in (class_told is_unsigned_integer places.UnsignedInteger only_unsigned (class_of ms) p.0, (has_number (codes "size") ms 8).0 q.0, (eight ms).0 q.1),
-      λ (class, eight_bits, aligned). and_from (option_map_or is_unsigned_integer (class_of ms) false) (size && align) (ap (λ o. option_map_or is_unsigned_integer o false) class) (and_from size align ((has_number (codes "size") ms 8).1 eight_bits) ((eight ms).1 aligned)),
-    )
+byte ms = grind (arith, nat_tests, class_told is_unsigned_integer places.UnsignedInteger only_unsigned (class_of ms), has_number (codes "size") ms 8, eight ms)
 
 identifier : (ms : Members) → IsTrue (is_identifier ms) ↔ IsIdentifier ms
 unfolding is_identifier
-identifier ms =
-    let length = is_number (natural_in (codes "length") ms) 16 in
-    let element = get_member (codes "element-field-type") ms in (
-      λ e. let p = and_parts length (is_byte element) e in let found = byte_object element p.1 in (found.0, (has_number (codes "length") ms 16).0 p.0, found.1, (byte found.0).0 (ap is_byte (sym found.1) ∙ p.1)),
-      λ (inner, sixteen, there, is). and_from length (is_byte element) ((has_number (codes "length") ms 16).1 sixteen) (ap is_byte there ∙ (byte inner).1 is),
-    )
+identifier ms = grind (arith, nat_tests, has_number (codes "length") ms 16, byte_object, byte)
 
 bits_told : (d : Data) → has_bits d ≡ false → HasNoBits d
 bits_told d = by_element (λ x. has_bits x ≡ false → HasNoBits x) step d
   where
-    of_element : (ms : Members) (o : Option Data) → get_member (codes "element-field-type") ms ≡ o → ((x : Data) → get_member (codes "element-field-type") ms ≡ Some x → has_bits x ≡ false → HasNoBits x) → class_of ms ≡ Some places.StaticArray → option_map_or has_bits o true ≡ false → HasNoBits (object ms)
-    of_element ms None there inner class none = absurd cc
-    of_element ms (Some x) there inner class none = HasNoBits.an_array_of_such ms x class there (inner x there none)
-
     step : (d : Data) → ((ms : Members) (x : Data) → d ≡ object ms → get_member (codes "element-field-type") ms ≡ Some x → has_bits x ≡ false → HasNoBits x) → has_bits d ≡ false → HasNoBits d
     step (object ms) inner e =
         let p = or_parts (not (option_map_or is_static_array (class_of ms) false)) _ e in
         let class = class_told is_static_array places.StaticArray only_static (class_of ms) (let is : option_map_or is_static_array (class_of ms) false ≡ true = grind (arith, nat_tests) in is) in
         elim (and_cases (not (is_number (natural_in (codes "length") ms) 0)) (element_has_bits ms) p.1) [
           | inl empty ↦ HasNoBits.an_empty_array ms class ((has_number (codes "length") ms 0).0 (let none : is_number (natural_in (codes "length") ms) 0 ≡ true = grind (arith, nat_tests) in none))
-          | inr none ↦ of_element ms (get_member (codes "element-field-type") ms) refl (λ x there. inner ms x refl there) class (sym (element_bits ms) ∙ none)
+          | inr none ↦ by_found (λ (o : Option Data). option_map_or has_bits o true ≡ false → HasNoBits (object ms)) (get_member (codes "element-field-type") ms) (λ absent e. absurd cc)
+              (λ x there e. HasNoBits.an_array_of_such ms x class there (inner ms x refl there e)) (sym (element_bits ms) ∙ none)
         ]
     step _ inner e = absurd cc
 
 no_bits_found : (d : Data) → HasNoBits d → has_bits d ≡ false
-no_bits_found d (HasNoBits.an_empty_array ms class length) =
-    let none : is_number (natural_in (codes "length") ms) 0 ≡ true = (has_number (codes "length") ms 0).1 length in
-    let static : option_map_or is_static_array (class_of ms) false ≡ true = ap (λ o. option_map_or is_static_array o false) class in
-    rw (static, none) refl
-no_bits_found d (HasNoBits.an_array_of_such ms element class there such) =
-    let static : option_map_or is_static_array (class_of ms) false ≡ true = ap (λ o. option_map_or is_static_array o false) class in
-    let none : element_has_bits ms ≡ false = element_bits ms ∙ ap (λ o. option_map_or has_bits o true) there ∙ no_bits_found element such in
-    rw (static, none) (and-false (not (is_number (natural_in (codes "length") ms) 0)))
+no_bits_found d (HasNoBits.an_empty_array ms class length) = grind (arith, nat_tests, has_number (codes "length") ms 0, class, length)
+no_bits_found d (HasNoBits.an_array_of_such ms element class there such) = grind (arith, nat_tests, element_bits ms, class, there, no_bits_found element such)
 
 shape_judged : (place : Place) (ms : Members) → IsJudged (shape_of place ms) (IsNoShapeAt place ms)
 unfolding shape_of
@@ -213,8 +148,7 @@ told P Q r h to = refused_all Q r (λ flaw e. to flaw (subst (λ x. IsJudged x P
 
 -- a reading that refuses nothing leaves none
 clear : (P : Flaw → Type 0) (r : Result ⊤ Flaw) (flaw : Flaw) → IsJudged r P → r ≡ Ok tt → ¬ P flaw
-clear P (Ok x) flaw h e = h flaw
-clear P (Err f) flaw h e = absurd cc
+clear P r flaw h e = grind (arith, h, e)
 
 -- what is told of a part, seen from the whole, before the rest
 pub seen : (P Q : Flaw → Type 0) (see : Flaw → Flaw) (xs ys : List Flaw) → All P xs → ((flaw : Flaw) → P flaw → Q (see flaw)) → All Q ys → All Q (map see xs ++ ys)
@@ -242,12 +176,13 @@ module _ (k : Known) (around : Around) (place : Place) (all before rest : Member
   IsFlawThere flaw = IsFlawOf around (At place) (object all) (within (key name) flaw)
 
   property_told : Agrees k inner → ((content : Content) → All (IsFlawOf inner content d) (inner_flaws k content d)) → All IsFlawThere (flaws_at k own name d)
+  unfolding is_left_out
   property_told h held =
       let has = member_there all before (member name d rest) name d parts (inl (refl, refl)) in
       by_found (λ (o : Option Content). All IsFlawThere (property_flaws k own name o d (inner_flaws k (unwrap_or o contents.Anything) d))) (resolved_content own name)
       (λ none. All-cons IsFlawThere (here Unknown) [] (IsFlawOf.wrong_rows (HasNotItsRows.unknown name d has (λ content is. some_none (resolved_content own name) content ((property own name content).1 is) none))) (All-nil IsFlawThere))
       (λ content is. by_test (λ (b : Bool). All IsFlawThere (cond b [] (told_by (itself_of k content d) ++ (told_by (key_of k own name d) ++ inner_flaws k content d)))) (is_left_out own name d) (λ out. All-nil IsFlawThere) (λ there.
-      let stays : ¬ IsLeftOut own name d = λ out. false≢true (sym there ∙ (left own name d).1 out) in
+      let stays : ¬ IsLeftOut own name d = λ out. false≢true (sym there ∙ (left (presence_under own name) d).1 out) in
       let of_value : (f : Flaw) → IsFlawOf inner content d f → IsFlawThere f = λ f wrong. IsFlawOf.in_property before name d content f (rest, parts) ((property own name content).0 is) stays wrong in
       All-append IsFlawThere (told_by (itself_of k content d)) _ (told (IsNoValueOf inner content d) IsFlawThere (itself_of k content d) (value_judged k inner h content d) (λ f wrong. of_value f (IsFlawOf.wrong_value wrong)))
       (All-append IsFlawThere (told_by (key_of k own name d)) _ (told (IsNoNameAt around own name d) IsFlawThere (key_of k own name d) (name_judged k around h.taken own name d) (λ f wrong. IsFlawOf.wrong_name name d f has wrong))
@@ -316,8 +251,7 @@ module _ (k : Known) (around : Around) (h : Agrees k around) (place : Place) (ms
 
 -- a property of which none is told is known
 known_there : (k : Known) (place : Place) (name : List ℕ) (d : Data) → flaws_at k place name d ≡ [] → (content : Content) × (resolved_content place name ≡ Some content)
-known_there k place name d e =
-    by_found (λ (o : Option Content). property_flaws k place name o d (inner_flaws k (unwrap_or o contents.Anything) d) ≡ [] → (content : Content) × (o ≡ Some content)) (resolved_content place name) (λ none f. absurd cc) (λ content is f. (content, refl)) e
+known_there k place name d e = grind (arith, e)
 
 none_of : (around : Around) (content : Content) (d : Data) (flaw : Flaw) → IsFlawOf around content d flaw → (k : Known) → Agrees k around → ¬ ContentSound k content d
 unfolding is_left_out all_there orders_there
@@ -342,7 +276,7 @@ none_of around content d flaw (IsFlawOf.wrong_name {place = place} {ms = ms} nam
 none_of around content d flaw (IsFlawOf.in_property {place = place} {ms = ms} before name v inner f behind_these is left_not wrong) k h sound =
     let p = place_of_properties place ms in
     let (j, agrees, empty) = member_at k around h place ms (object_sound k place ms sound.inner) before name v behind_these in
-    let stays = by_test (λ (b : Bool). b ≡ false) (is_left_out p name v) (λ out. absurd (left_not ((left p name v).0 out))) (λ is. refl) in
+    let stays = by_test (λ (b : Bool). b ≡ false) (is_left_out p name v) (λ out. absurd (left_not ((left (presence_under p name) v).0 out))) (λ is. refl) in
     none_of (member_of p ms before ∷ around) inner v f wrong j agrees (property_here j p name inner v ((property p name inner).1 is) stays empty).value
 none_of around content d flaw (IsFlawOf.in_item {place = place} {ds = ds} i v f is wrong) k h sound =
     let (t, takes, at) = item_at k place ds ds 0 i (names_beside place) v (takes_beside place ds) (from_start ds) sound.inner is in
@@ -368,5 +302,4 @@ refused_told d flaw e = flaw_told d flaw (refused_among (configuration_flaws d) 
 
 -- a walk that refuses nothing tells of nothing
 pub none_refused : (flaws : List Flaw) → refusal flaws ≡ Ok tt → flaws ≡ []
-none_refused [] e = refl
-none_refused (f ∷ flaws) e = absurd cc
+none_refused flaws e = grind (arith, e)

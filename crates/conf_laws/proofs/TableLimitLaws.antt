@@ -5,7 +5,7 @@ use Rattle.conf_laws.proofs.Properties.{fits_there, limits_at, first_limits, fir
 use Rattle.conf_laws.proofs.Readings.{some_same, at_member, class_told, only_static, of_element, in_array, by_found, by_test}
 use Rattle.conf_laws.proofs.TableFlawLaws.{seen, refused_among}
 use Rattle.conf_laws.proofs.ValueFlawLaws.{none_there}
-use Rattle.conf_laws.proofs.Words.{All-weaker, All-append, All, HasMember, get_item, IsArray, HasElement, Nest, product, HasTooManyElements, PassesAt, IsLongText, IsNoPowerUpTo, PassesBy, PassesLimitOf, entries_of, content_under, Place, Content, Entries, Keys, class_of, told_by, times, at_least_one, elements, elements_in_array, within_limit, bytes_fit, divides, power_fits, is_outermost, arrays_fit, count_of, at_most, ranges_of, ranges_fit, place_fits, fits, is_label, key_fits, inner_limits, item_limits, member_limits, configuration_limits, content_limits, natural_in, place_of_properties, item_content, is_static_array, Flaw, key, index, here, within, refusal, Limit, as_natural, Data, object, Members, string, array, Items, no_items, item, no_members, member, get_member, nat_tests, mul-one, one-le-mul, mul-mod_right, leb-true, leb-false, lt-leb, ne_eqb, or_from, and_left, and_right, true≢false, eqb-false, and_cases, or_parts, All-nil, All-cons, All-contains, mul-le, option_map_or}
+use Rattle.conf_laws.proofs.Words.{All-weaker, All-append, All, HasMember, get_item, IsArray, HasElement, Nest, product, HasTooManyElements, PassesAt, IsLongText, IsNoPowerUpTo, PassesBy, PassesLimitOf, entries_of, content_under, Place, Content, Entries, Keys, class_of, told_by, times, at_least_one, elements, elements_in_array, within_limit, bytes_fit, divides, power_fits, is_outermost, arrays_fit, count_of, at_most, ranges_of, ranges_fit, place_fits, fits, is_label, key_fits, inner_limits, item_limits, member_limits, configuration_limits, content_limits, natural_in, place_of_properties, item_content, is_static_array, Flaw, key, index, here, within, refusal, Limit, as_natural, Data, object, Members, array, Items, no_items, item, no_members, member, get_member, nat_tests, mul-one, one-le-mul, mul-mod_right, leb-true, leb-false, lt-leb, ne_eqb, or_from, and_left, and_right, true≢false, eqb-false, and_cases, or_parts, All-nil, All-cons, All-contains, mul-le, option_map_or}
 use Rattle.conf_laws.proofs.Words.places
 use Rattle.conf_laws.proofs.Words.contents
 use Rattle.conf_laws.proofs.Words.keys
@@ -95,18 +95,12 @@ elements_told d e = elim (subst (Measured 8 d) e (measured 8 d)) [
 ]
 
 counted_few : (d : Data) (m : ℕ) → Counted 8 d m → ¬ HasTooManyElements d
-counted_few d m counted (HasTooManyElements.too_deep ns nest deep) = let short = (counted.most d ns nest refl).1 in omega (arith, short, deep)
-counted_few d m counted (HasTooManyElements.too_many ms element ns is has nest many) = let below = (counted.most d ns nest refl).0 in let few = counted.few ms element is has in omega (arith, below, few, many)
-
-pub not_counted : (d : Data) → HasTooManyElements d → elements 8 d ≡ None
-not_counted d many =
-    by_found (λ (o : Option ℕ). Measured 8 d o → o ≡ None) (elements 8 d) (λ is m. refl) (λ m is counted. absurd (counted_few d m counted many)) (measured 8 d)
+counted_few d m counted many = grind (arith, counted, many)
 
 -- ---- a value by itself
 
 long_fails : (most : ℕ) (d : Data) → (bytes_fit most d ≡ false) ↔ IsLongText most d
-long_fails most (string s) = (λ e. (s, refl, leb-false (length s) most e), λ (t, is, long). let same : s ≡ t = cc in lt-leb (length s) most (subst (λ x. most < length x) (sym same) long))
-long_fails most _ = (λ e. absurd cc, λ (t, is, long). absurd cc)
+long_fails most d = grind (arith, nat_tests)
 
 power_fails : (high : ℕ) (d : Data) → (power_fits high d ≡ false) ↔ IsNoPowerUpTo high d
 unfolding power_fits
@@ -131,8 +125,7 @@ module _ (place : Place) (d : Data) where
 
 ranges_told : (place : Place) (d : Data) → ranges_fit place d ≡ false → PassesAt place d
 unfolding ranges_fit
-ranges_told places.Mappings d e = PassesAt.too_many_ranges refl (leb-false (ranges_of d) 1024 e)
-ranges_told _ d e = absurd cc
+ranges_told place d e = grind (arith, nat_tests, e)
 
 at_told : (place : Place) (d : Data) → place_fits place d ≡ false → PassesAt place d
 unfolding place_fits
@@ -147,7 +140,7 @@ at_fails place d (PassesAt.too_many_entries entries most is number_is more) =
     let counted : at_most (Some entries) (count_of d) ≡ nat_le (count_of d) most = rw number_is refl in
     and_right (arrays_fit place d) _ (and_left (at_most (entries_of place) (count_of d)) (ranges_fit place d) (ap (λ o. at_most o (count_of d)) is ∙ counted ∙ lt-leb (count_of d) most more))
 at_fails place d (PassesAt.too_many_ranges is more) = and_right (arrays_fit place d) _ (and_right (at_most (entries_of place) (count_of d)) (ranges_fit place d) (subst (λ p. ranges_fit p d ≡ false) (sym is) (lt-leb (ranges_of d) 1024 more)))
-at_fails place d (PassesAt.too_many_elements outermost many) = and_left (arrays_fit place d) _ (rw outermost (ap is_some (not_counted d many)))
+at_fails place d (PassesAt.too_many_elements outermost many) = and_left (arrays_fit place d) _ (rw outermost (by_found (λ (o : Option ℕ). Measured 8 d o → is_some o ≡ false) (elements 8 d) (λ none m. refl) (λ m some counted. absurd (counted_few d m counted many)) (measured 8 d)))
 
 pub by_fails : (content : Content) (d : Data) → (fits content d ≡ false) ↔ PassesBy content d
 unfolding fits
@@ -163,18 +156,11 @@ abbrev pub IsLongLabel : Place → List ℕ → Type 0
 IsLongLabel place name = (entries : Entries) × (entries_of place ≡ Some entries) × (entries.keys ≡ keys.Label) × (4096 < length name)
 
 label_is : (by : Keys) → is_label by ≡ true → by ≡ keys.Label
-label_is keys.Label e = refl
-label_is _ e = absurd cc
+label_is by e = grind (arith, e)
 
 pub label_fails : (place : Place) (name : List ℕ) → (key_fits place name ≡ false) ↔ IsLongLabel place name
 unfolding key_fits
-label_fails place name = (
-  by_found (λ (o : Option Entries). cond (option_map_or (λ x. is_label x.keys) o false) (nat_le (length name) 4096) true ≡ false → IsLongLabel place name) (entries_of place) (λ none e. absurd cc) (λ entries is.
-      by_test (λ (b : Bool). cond b (nat_le (length name) 4096) true ≡ false → IsLongLabel place name) (is_label entries.keys) (λ label e. (entries, is, label_is entries.keys label, leb-false (length name) 4096 e)) (λ other e. absurd cc)),
-  λ (entries, is, label, long).
-      let labels : option_map_or (λ x. is_label x.keys) (entries_of place) false ≡ true = ap (λ o. option_map_or (λ x. is_label x.keys) o false) is ∙ rw label refl in
-      rw labels (lt-leb (length name) 4096 long),
-)
+label_fails place name = grind (arith, nat_tests, label_is)
 
 -- ---- each limit that is told of
 

@@ -1,13 +1,13 @@
 -- What a configuration says that has no flaw, from its features to the trace around them; and that what it says is what the rules allow,
 -- where it also passes no limit, its names are in order, and it keeps the rules over the whole.
 use Rattle.std.proofs.Common.{◌≡◌, ℕ, ◌&&◌, Bool, true, false, cond, List, Option, Some, None, is_some, IsSome, refl, sym, ap, subst, ◌∙◌, append_assoc, pos, ◌<◌, ◌^◌, [], map, ◌∷◌, ◌++◌, Ok, Err, arith, nat_le, codes, option_map, option_and_then, unwrap_or}
-use Rattle.conf_laws.proofs.AllowedMaps.{IsMade, integer_says, config_name, AreAllowed, AreUnder, none_under, one_under, map_allowed, AreClocks, clocks_allowed, IsEnvironment, environment_allowed}
-use Rattle.conf_laws.proofs.Structures.{AreExtras, structure_says, extras_says}
+use Rattle.conf_laws.proofs.AllowedMaps.{IsMade, integer_says, config_name, AreAllowed, AreUnder, none_under, one_under, map_allowed, clocks_allowed, IsEnvironment, environment_allowed}
+use Rattle.conf_laws.proofs.Structures.{structure_says, extras_says}
 use Rattle.conf_laws.proofs.Numbers.{number_told, natural_is_in}
-use Rattle.conf_laws.proofs.Properties.{IsWithin, AreWithin, is_within, object_within, optional_within, entry_within, all_within, flaws_in, names_of, OwnPlace, is_object, is_own, type_object}
+use Rattle.conf_laws.proofs.Properties.{IsWithin, AreWithin, is_within, object_within, optional_within, entry_within, all_within, flaws_in, names_of, IsOwn}
 use Rattle.conf_laws.proofs.Readings.{byte_object, Says, some_same, mapped_says, same_natural, class_told, only_unsigned, only_static, object_there, optional_found, by_found}
 use Rattle.conf_laws.proofs.Sound.{IsMapOf, TypeSound, type_sound, HasRow, RowsSound, needed_sound, optional_sound, ObjectSound, ContentSound, object_sound, content_sound, held_at, first_entry, needed_object}
-use Rattle.conf_laws.proofs.Words.{is_passed, rows_of, Presence, admits_class, Place, At, Level, class_of, Known, inside, behind, nothing, members_or_none, natural_in, is_position, shape_of, is_identifier, is_byte, is_unsigned_integer, is_number, is_eight, at_most, entries_of, key_of, key_by, itself_of, leaf_of, level, whole_from, member_flaws, configuration_flaws, configuration_limits, Ascends, All-map, IsStreamType, IsEventType, IsConfig, IsPlainName, ClockType, Draft, KeepsStreamRules, KeepsRules, RecordHasBits, optional, as_natural, Data, boolean, object, string, Members, no_members, members_len, get_member, member, as_object, here, NoSuchAlias, and_parts, same_Some, append-nil, option_map_or, alignment_of, alignment, number_type, magic_type, byte_type, feature_of, feature, byte_of, identifier, size, mapped, timestamp, header, context, event_header, integer, size_of, default_align, integer_align as align_of, natural, object_at as object_named, properties, said_behind, word, OnlyIf, IsPlainUnsigned, ContextFeatures, EventFeatures, HeaderFeatures, IntType, environment, level_of, event_type, event_types, clock_of, stream_type, stream_types, draft_with, draft_of_type, draft_of_trace, draft_of_root, draft_of, IsConfigStruct, IsConfigName, Config, EnvironmentEntry, EventType, StreamType}
+use Rattle.conf_laws.proofs.Words.{nat_tests, is_passed, rows_of, Presence, admits_class, Place, At, Level, class_of, Known, inside, behind, nothing, members_or_none, natural_in, is_position, form_of, place_of_properties, own_place, shape_of, is_identifier, is_byte, is_unsigned_integer, is_number, is_eight, at_most, entries_of, key_of, key_by, itself_of, leaf_of, level, whole_from, member_flaws, configuration_flaws, configuration_limits, Ascends, All-map, IsStreamType, IsEventType, IsConfig, IsPlainName, ClockType, Draft, KeepsStreamRules, KeepsRules, RecordHasBits, optional, as_natural, Data, boolean, object, string, Members, no_members, members_len, get_member, member, as_object, here, NoSuchAlias, and_parts, same_Some, append-nil, option_map_or, alignment_of, alignment, number_type, magic_type, byte_type, feature_of, feature, byte_of, identifier, size, mapped, timestamp, header, context, event_header, integer, size_of, default_align, integer_align as align_of, natural, object_at as object_named, properties, said_behind, word, OnlyIf, IsPlainUnsigned, ContextFeatures, EventFeatures, HeaderFeatures, IntType, environment, level_of, event_type, event_types, clock_of, stream_type, stream_types, clock_types, draft_with, draft_of_type, draft_of_trace, draft_of_root, draft_of, IsConfigName, Config, EnvironmentEntry, EventType, StreamType}
 use Rattle.conf_laws.proofs.Words.places
 
 -- ---- unsigned integers
@@ -27,8 +27,7 @@ size_is ms t n made is = made.size_is ∙ ap (λ o. unwrap_or o 0) (same_natural
 -- ---- the type that a feature has: the one that it says itself, or its default
 
 on_or_off : (P : IntType → Type 0) (b : Bool) (t : IntType) → P t → OnlyIf (cond b (Some t) None) P
-on_or_off P true t h = λ x is. subst P (same_Some t x is) h
-on_or_off P false t h = λ x is. absurd cc
+on_or_off P b t h = grind (arith, h)
 
 value_says : (P : IntType → Type 0) (of : Members → Option IntType) (b : Bool) (t : IntType) (o : Option Data) → P t → ((ms : Members) → o ≡ Some (object ms) → Says (of ms) P) → Says (feature_of of b t o) (λ x. OnlyIf x P)
 value_says P of b t (Some (object ms)) h own = mapped_says P (λ x. OnlyIf x P) (λ x. Some x) (of ms) (λ x one y is. subst P (same_Some x y is) one) (own ms refl)
@@ -41,13 +40,10 @@ IsOfClock clock t = (t.signed ≡ false) × (t.clock ≡ clock)
 
 mapped_only : (clock : Option (List ℕ)) (o : Option IntType) → OnlyIf o IsPlainUnsigned → OnlyIf (option_map (mapped clock) o) (IsOfClock clock)
 unfolding mapped
-mapped_only clock None plain = λ t is. absurd cc
-mapped_only None (Some x) plain = plain
-mapped_only (Some c) (Some x) plain = λ t is. subst (IsOfClock (Some c)) (same_Some (mapped (Some c) x) t is) ((plain x refl).0, refl)
+mapped_only clock o plain = grind (arith, plain)
 
 plain_or : (o : Option IntType) → OnlyIf o IsPlainUnsigned → IsPlainUnsigned (unwrap_or o number_type)
-plain_or None only = (refl, refl)
-plain_or (Some t) only = only t refl
+plain_or o only = grind (arith, only)
 
 -- the features of an object
 module _ (k : Known) (around : Place) (ms : Members) (f : member_flaws k around ms ≡ []) where
@@ -84,8 +80,7 @@ abbrev pub IsByte : IntType → Type 0
 IsByte t = IsPlainUnsigned t × (t.size ≡ 8) × (t.align ≡ 8)
 
 eight_aligned : (o : Option Data) (size : ℕ) → is_eight o ≡ true → size ≡ 8 → unwrap_or (option_and_then alignment_of (option_and_then as_natural o)) (default_align size) ≡ 8
-eight_aligned None size e is = ap default_align is
-eight_aligned (Some d) size e is = ap (λ o. unwrap_or (option_and_then alignment_of o) (default_align size)) (number_told (as_natural d) 8 e)
+eight_aligned o size e is = grind (arith, nat_tests, e, is)
 
 byte_says : (k : Known) (ms : Members) → ContentSound k (At places.ElementType) (object ms) → is_byte (Some (object ms)) ≡ true → Says (integer false ms) IsByte
 unfolding is_position align_of alignment natural
@@ -161,7 +156,7 @@ event_header_says k clock ms f =
 -- ---- maps of types
 
 -- each entry of such a map, an object, is read as a type, which is put behind those that are done
-module _ {A : Type 0} {place inner : Place} (named : A → List ℕ) (good : A → Type 0) (map : IsMapOf place (At inner)) (one : OwnPlace true inner) (all : OwnPlace true place) (most : ℕ) (of : Members → List ℕ → Members → Option A)
+module _ {A : Type 0} {place inner : Place} (named : A → List ℕ) (good : A → Type 0) (map : IsMapOf place (At inner)) (one : IsOwn inner) (all : IsOwn place) (most : ℕ) (of : Members → List ℕ → Members → Option A)
     (bounded : (n : ℕ) → at_most (entries_of place) n ≡ nat_le n most) (keeps : (d : Data) (k : Known) → (behind place d k).levels ≡ k.levels)
     (says : (k : Known) (name : List ℕ) (d : Data) (ms : Members) → key_of k place name d ≡ Ok tt → member_flaws k inner ms ≡ [] → Says (of k.levels name ms) (λ x. (named x ≡ name) × (AreWithin inner ms → good x))) where
   -- from here on, behind those that are done
@@ -170,14 +165,14 @@ module _ {A : Type 0} {place inner : Place} (named : A → List ℕ) (good : A �
   types_say levels k is no_members done f = (done, refl, ([], append-nil done, λ own. none_under named good))
   types_say levels k is (member name d ms) done f =
       let first = first_entry k place name (At inner) d ms map f in
-      let (ns, same, rows) = held_at k inner d (is_object one) first.0.value in
-      let new = says k name d ns first.0.named (subst (λ j. member_flaws j inner ns ≡ []) ((is_own one).known k ns) rows.flaws) in
+      let (ns, same, rows) = held_at k inner d one.0 first.0.value in
+      let new = says k name d ns first.0.named (subst (λ j. member_flaws j inner ns ≡ []) (one.1 k ns) rows.flaws) in
       let rest = types_say levels (behind place d k) (keeps d k ∙ is) ms (done ++ new.0 ∷ []) first.1 in
       let x : A = new.0 in
       let ys = rest.2.0 in
       let good_here : AreWithin place (member name d ms) → AreUnder named good (name ∷ names_of ms) (x ∷ ys) = λ own.
       let within = entry_within place (At inner) map name d ms own in
-      let inside = object_within inner inner ns ((is_own one).own ns) (subst (λ y. IsWithin (At inner) y) same within.0) in
+      let inside = object_within inner inner ns (one.0 k d ns).1 (subst (λ y. IsWithin (At inner) y) same within.0) in
       one_under named good name (names_of ms) x ys new.2.0 (new.2.1 inside) (rest.2.2 within.2) in
       let said = ap (λ y. said_behind (of levels) done (member name y ms)) same ∙ ap (option_and_then (λ y. said_behind (of levels) (done ++ y ∷ []) ms)) (ap (λ l. of l name ns) (sym is) ∙ new.1) ∙ rest.1 in
       (rest.0, said, (x ∷ ys, sym (append_assoc done (x ∷ []) ys) ∙ rest.2.1, good_here))
@@ -186,7 +181,7 @@ module _ {A : Type 0} {place inner : Place} (named : A → List ℕ) (good : A �
   map_says k around name row ms levels is f =
       let (xs, said, (ys, same, under)) = types_say levels k is (properties name ms) [] (flaws_in k around name row all ms f) in
       let few = bounded (members_len (properties name ms)) in
-      (xs, said, λ h. let own = all_within around name row all ms h in subst (AreAllowed named good most) same (map_allowed named good most (properties name ms) ys own.0.in_order (sym few ∙ own.1) (under own.0)))
+      (xs, said, λ h. let own = all_within around name row all.0 ms h in subst (AreAllowed named good most) same (map_allowed named good most (properties name ms) ys own.0.in_order (sym few ∙ own.1) (under own.0)))
 
 -- ---- event record types
 
@@ -202,32 +197,28 @@ level_small levels (string name) n judged is =
     by_found (λ (o : Option Data). option_map_or (whole_from (pos 0) (pos highest)) o (Err (here NoSuchAlias)) ≡ Ok tt → option_and_then as_natural o ≡ Some n → n < 2 ^ 63) (get_member name levels) (λ none j e. absurd cc) (λ d there j e. small d n j e) judged is
 level_small levels d n judged is = small d n judged is
 
-level_allowed : (k : Known) (ms : Members) (n : ℕ) → member_flaws k places.EventType ms ≡ [] → level_of k.levels (optional (codes "log-level") ms) ≡ Some n → n < 2 ^ 63
-unfolding itself_of leaf_of rows_of
-level_allowed k ms n f e =
-    by_found (λ (o : Option Data). level_of k.levels o ≡ Some n → n < 2 ^ 63) (optional (codes "log-level") ms)
-    (λ is e. absurd cc) (λ d is e. level_small k.levels d n (optional_sound k places.EventType (codes "log-level") (Level (pos highest)) ms d (refl, refl) f is).value.itself e) e
-
 -- the rules allow an event record type, where its records have bits
 abbrev IsGoodEvent : EventType → Type 0
 IsGoodEvent e = (s : StreamType) → RecordHasBits s e → IsEventType s e
 
 event_says : (k : Known) (name : List ℕ) (ms : Members) → IsConfigName name → member_flaws k places.EventType ms ≡ [] → Says (event_type k.levels name ms) (λ e. (e.name ≡ name) × (AreWithin places.EventType ms → IsGoodEvent e))
-unfolding event_type rows_of
+unfolding event_type rows_of itself_of leaf_of
 event_says k name ms named f =
     let specific = structure_says k places.EventType (codes "specific-context-field-type") (refl, refl) ms f in
     let payload = structure_says k places.EventType (codes "payload-field-type") (refl, refl) ms f in
     let level = level_of k.levels (optional (codes "log-level") ms) in
+    let small : (n : ℕ) → level ≡ Some n → n < 2 ^ 63 = λ n. by_found (λ (o : Option Data). level_of k.levels o ≡ Some n → n < 2 ^ 63) (optional (codes "log-level") ms)
+    (λ none e. absurd cc) (λ d is e. level_small k.levels d n (optional_sound k places.EventType (codes "log-level") (Level (pos highest)) ms d (refl, refl) f is).value.itself e) in
     let said : EventType = record { name = name; log_level = level; specific = specific.0; payload = payload.0 } in
-    (said, rw (specific.1, payload.1) refl, (refl, λ h s bits. record { name = named; log_level = λ n is. level_allowed k ms n f is; specific = specific.2 h; payload = payload.2 h; has_bits = bits }))
+    (said, rw (specific.1, payload.1) refl, (refl, λ h s bits. record { name = named; log_level = small; specific = specific.2 h; payload = payload.2 h; has_bits = bits }))
 
 abbrev pub AreGoodEvents : List EventType → Type 0
 AreGoodEvents es = AreAllowed (λ (e : EventType). e.name) IsGoodEvent 1024 es
 
 events_say : (k : Known) (ms : Members) → member_flaws k places.StreamType ms ≡ [] → Says (event_types k.levels ms) (λ es. AreWithin places.StreamType ms → AreGoodEvents es)
-unfolding event_types key_of key_by entries_of behind rows_of
+unfolding event_types key_of key_by entries_of behind rows_of inside itself_of form_of place_of_properties is_position own_place
 events_say k ms f =
-    map_says (λ (e : EventType). e.name) IsGoodEvent (_, refl, refl, refl) OwnPlace.event_type OwnPlace.event_types 1024 event_type (λ n. refl) (λ d j. refl) (λ j name d own judged flaws. event_says j name own (config_name name judged) flaws)
+    map_says (λ (e : EventType). e.name) IsGoodEvent (_, refl, refl, refl) (λ j d own. (refl, refl), λ j own. refl) (λ j d own. (refl, refl), λ j own. refl) 1024 event_type (λ n. refl) (λ d j. refl) (λ j name d own judged flaws. event_says j name own (config_name name judged) flaws)
     k places.StreamType (codes "event-record-types") (refl, refl) ms k.levels refl f
 
 -- ---- data stream types
@@ -236,48 +227,47 @@ events_say k ms f =
 abbrev IsGoodStream : StreamType → Type 0
 IsGoodStream s = (clocks : List (List ℕ)) → KeepsStreamRules clocks s → IsStreamType clocks s
 
-stream_allowed : (clocks : List (List ℕ)) (s : StreamType) → IsConfigName s.name → IsContext s.default_clock s.context → AreExtras s.extras → IsEventHeader s.default_clock s.event_header → IsConfigStruct s.common → AreGoodEvents s.events → KeepsStreamRules clocks s → IsStreamType clocks s
-stream_allowed clocks s named packet extras head common all rules = record {
-  name = named;
-  default_clock = rules.default_clock;
-  packet_size = packet.packet_size;
-  content_size = packet.content_size;
-  timestamp_begin = λ t is. let a = packet.timestamp_begin t is in let b = rules.timestamp_begin t is in (a.0, b.0, b.1, a.1);
-  timestamp_end = λ t is. let a = packet.timestamp_end t is in let b = rules.timestamp_end t is in (a.0, b.0, b.1, a.1);
-  events_discarded = packet.events_discarded;
-  packet_seq_num = packet.packet_seq_num;
-  extras = extras.members;
-  extras_align = extras.align;
-  no_own_name = extras.no_own_name;
-  id = head.id;
-  id_holds = rules.id_holds;
-  timestamp = λ t is. let a = head.timestamp t is in let b = rules.timestamp t is in (a.0, b.0, b.1, b.2, a.1);
-  common = common;
-  events = λ i e at. all.each i e at s (rules.has_bits i e at);
-  events_in_order = all.in_order;
-  events_few = all.few;
-}
-
 stream_says : (k : Known) (name : List ℕ) (ms : Members) → IsConfigName name → member_flaws k places.StreamType ms ≡ [] → Says (stream_type k.levels name ms) (λ s. (s.name ≡ name) × (AreWithin places.StreamType ms → IsGoodStream s))
-unfolding stream_type rows_of
+unfolding stream_type rows_of inside itself_of form_of place_of_properties is_position own_place
 stream_says k name ms named f =
     let features = properties (codes "$features") ms in
-    let own = flaws_in k places.StreamType (codes "$features") (refl, refl) OwnPlace.stream_features ms f in
-    let context = context_says k (clock_of ms) (properties (codes "packet") features) (flaws_in k places.StreamFeatures (codes "packet") (refl, refl) OwnPlace.packet_features features own) in
+    let own = flaws_in k places.StreamType (codes "$features") (refl, refl) (λ j d own. (refl, refl), λ j own. refl) ms f in
+    let context = context_says k (clock_of ms) (properties (codes "packet") features) (flaws_in k places.StreamFeatures (codes "packet") (refl, refl) (λ j d own. (refl, refl), λ j own. refl) features own) in
     let extras = extras_says k ms f in
-    let header = event_header_says k (clock_of ms) (properties (codes "event-record") features) (flaws_in k places.StreamFeatures (codes "event-record") (refl, refl) OwnPlace.record_features features own) in
+    let header = event_header_says k (clock_of ms) (properties (codes "event-record") features) (flaws_in k places.StreamFeatures (codes "event-record") (refl, refl) (λ j d own. (refl, refl), λ j own. refl) features own) in
     let common = structure_says k places.StreamType (codes "event-record-common-context-field-type") (refl, refl) ms f in
     let events = events_say k ms f in
     let said : StreamType = record { name = name; default_clock = clock_of ms; context = context.0; extras = extras.0; event_header = header.0; common = common.0; events = events.0 } in
-    (said, rw (context.1, extras.1, header.1, common.1, events.1) refl, (refl, λ h clocks. stream_allowed clocks said named context.2 (extras.2 h) header.2 (common.2 h) (events.2 h)))
+    let good : AreWithin places.StreamType ms → IsGoodStream said = λ h clocks rules.
+    let packet = context.2 in let others = extras.2 h in let all = events.2 h in record {
+      name = named;
+      default_clock = rules.default_clock;
+      packet_size = packet.packet_size;
+      content_size = packet.content_size;
+      timestamp_begin = λ t is. let a = packet.timestamp_begin t is in let b = rules.timestamp_begin t is in (a.0, b.0, b.1, a.1);
+      timestamp_end = λ t is. let a = packet.timestamp_end t is in let b = rules.timestamp_end t is in (a.0, b.0, b.1, a.1);
+      events_discarded = packet.events_discarded;
+      packet_seq_num = packet.packet_seq_num;
+      extras = others.members;
+      extras_align = others.align;
+      no_own_name = others.no_own_name;
+      id = header.2.id;
+      id_holds = rules.id_holds;
+      timestamp = λ t is. let a = header.2.timestamp t is in let b = rules.timestamp t is in (a.0, b.0, b.1, b.2, a.1);
+      common = common.2 h;
+      events = λ i e at. all.each i e at said (rules.has_bits i e at);
+      events_in_order = all.in_order;
+      events_few = all.few;
+    } in
+    (said, rw (context.1, extras.1, header.1, common.1, events.1) refl, (refl, good))
 
 abbrev pub AreGoodStreams : List StreamType → Type 0
 AreGoodStreams ss = AreAllowed (λ (s : StreamType). s.name) IsGoodStream 64 ss
 
 streams_say : (k : Known) (ms : Members) → k.levels ≡ properties (codes "$log-level-aliases") ms → member_flaws k places.TraceType ms ≡ [] → Says (stream_types ms) (λ ss. AreWithin places.TraceType ms → AreGoodStreams ss)
-unfolding stream_types key_of key_by entries_of behind rows_of
+unfolding stream_types key_of key_by entries_of behind rows_of inside itself_of form_of place_of_properties is_position own_place
 streams_say k ms levels f =
-    map_says (λ (s : StreamType). s.name) IsGoodStream (_, refl, refl, refl) OwnPlace.stream_type OwnPlace.stream_types 64 stream_type (λ n. refl) (λ d j. refl) (λ j name d own judged flaws. stream_says j name own (config_name name judged) flaws)
+    map_says (λ (s : StreamType). s.name) IsGoodStream (_, refl, refl, refl) (λ j d own. (refl, refl), λ j own. refl) (λ j d own. (refl, refl), λ j own. refl) 64 stream_type (λ n. refl) (λ d j. refl) (λ j name d own judged flaws. stream_says j name own (config_name name judged) flaws)
     k places.TraceType (codes "data-stream-types") (refl, refl) ms (properties (codes "$log-level-aliases") ms) levels f
 
 -- ---- the trace
@@ -286,57 +276,56 @@ streams_say k ms levels f =
 abbrev IsGoodConfig : Config → Type 0
 IsGoodConfig c = KeepsRules c → IsConfig c
 
-config_allowed : (c : Config) → IsEnvironment c.environment → AreClocks c.clocks → IsHeader c.header → AreGoodStreams c.streams → KeepsRules c → IsConfig c
-config_allowed c env clocks head streams rules = record {
-  environment_names = All-map IsPlainName (λ e. e.name) c.environment (λ i e at. (env.each i e at).0);
-  environment_values = λ i e at. (env.each i e at).1;
-  environment_in_order = env.in_order;
-  environment_few = env.few;
-  clocks = clocks.each;
-  clocks_in_order = clocks.in_order;
-  clocks_few = clocks.few;
-  magic = head.magic;
-  uuid = head.uuid;
-  uuid_is_there = rules.uuid_is_there;
-  stream_id = head.stream_id;
-  stream_id_holds = rules.stream_id_holds;
-  streams = λ i s at. streams.each i s at (map (λ (k : ClockType). k.name) c.clocks) (rules.streams i s at);
-  streams_in_order = streams.in_order;
-  streams_few = streams.few;
-}
-
 levels_same : (o : Option Data) → members_or_none o ≡ unwrap_or (option_and_then as_object o) no_members
-levels_same (Some (object ms)) = refl
-levels_same _ = refl
+levels_same o = grind arith
 
 type_says : (k : Known) (given : Option (List ℕ)) (entries : List EnvironmentEntry) (ms : Members) → k.levels ≡ properties (codes "$log-level-aliases") ms → member_flaws k places.TraceType ms ≡ []
     → Says (draft_of_type given entries ms) (λ draft. IsEnvironment entries → AreWithin places.TraceType ms → IsGoodConfig draft.config)
-unfolding draft_of_type rows_of
+unfolding draft_of_type rows_of inside itself_of form_of place_of_properties is_position own_place
 type_says k given entries ms levels f =
-    let header = header_says k (is_some (word (codes "uuid") ms)) (properties (codes "$features") ms) (flaws_in k places.TraceType (codes "$features") (refl, refl) OwnPlace.trace_features ms f) in
-    let streams = streams_say k ms levels f in
-    (_, ap (λ a. draft_with given entries ms a (stream_types ms)) header.1 ∙ ap (draft_with given entries ms (Some header.0)) streams.1, λ env h. config_allowed _ env (clocks_allowed k ms f h) header.2 (streams.2 h))
+    let header = header_says k (is_some (word (codes "uuid") ms)) (properties (codes "$features") ms) (flaws_in k places.TraceType (codes "$features") (refl, refl) (λ j d own. (refl, refl), λ j own. refl) ms f) in
+    let streams = streams_say k ms levels f in (
+      _,
+      ap (λ a. draft_with given entries ms a (stream_types ms)) header.1 ∙ ap (draft_with given entries ms (Some header.0)) streams.1,
+      λ env h rules. let clocks = clocks_allowed k ms f h in let all = streams.2 h in record {
+        environment_names = All-map IsPlainName (λ e. e.name) entries (λ i e at. (env.each i e at).0);
+        environment_values = λ i e at. (env.each i e at).1;
+        environment_in_order = env.in_order;
+        environment_few = env.few;
+        clocks = clocks.each;
+        clocks_in_order = clocks.in_order;
+        clocks_few = clocks.few;
+        magic = header.2.magic;
+        uuid = header.2.uuid;
+        uuid_is_there = rules.uuid_is_there;
+        stream_id = header.2.stream_id;
+        stream_id_holds = rules.stream_id_holds;
+        streams = λ i s at. all.each i s at (map (λ (c : ClockType). c.name) (clock_types ms)) (rules.streams i s at);
+        streams_in_order = all.in_order;
+        streams_few = all.few;
+      },
+    )
 
 trace_says : (k : Known) (given : Option (List ℕ)) (ms : Members) → RowsSound k places.Trace ms → Says (draft_of_trace given ms) (λ draft. AreWithin places.Trace ms → IsGoodConfig draft.config)
-unfolding draft_of_trace inside properties object_named rows_of
+unfolding draft_of_trace inside properties object_named rows_of itself_of form_of place_of_properties is_position own_place
 trace_says k given ms h =
-    let t = needed_object k places.Trace places.TraceType (codes "type") ms (refl, refl) type_object h in
+    let t = needed_object k places.Trace places.TraceType (codes "type") ms (refl, refl) (λ j d os. (refl, refl)) h in
     let type = type_says (inside places.TraceType t.0 k) given (environment ms) t.0 (levels_same (optional (codes "$log-level-aliases") t.0)) t.2.flaws in
-    (type.0, ap (option_and_then (draft_of_type given (environment ms))) t.1 ∙ type.1, λ good. type.2 (environment_allowed k ms h.flaws good) (object_within places.TraceType places.TraceType t.0 (type_object.own t.0) (optional_within places.Trace (codes "type") (At places.TraceType) (refl, refl) ms (object t.0) good (object_there (optional (codes "type") ms) t.0 t.1))))
+    (type.0, ap (option_and_then (draft_of_type given (environment ms))) t.1 ∙ type.1, λ good. type.2 (environment_allowed k ms h.flaws good) (object_within places.TraceType places.TraceType t.0 refl (optional_within places.Trace (codes "type") (At places.TraceType) (refl, refl) ms (object t.0) good (object_there (optional (codes "type") ms) t.0 t.1))))
 
 root_says : (k : Known) (given : Option (List ℕ)) (ms : Members) → RowsSound k places.Root ms → Says (draft_of_root given ms) (λ draft. AreWithin places.Root ms → IsGoodConfig draft.config)
-unfolding draft_of_root inside object_named rows_of
+unfolding draft_of_root inside object_named rows_of itself_of form_of place_of_properties is_position own_place
 root_says k given ms h =
-    let t = needed_object k places.Root places.Trace (codes "trace") ms (refl, refl) (is_object OwnPlace.trace) h in
+    let t = needed_object k places.Root places.Trace (codes "trace") ms (refl, refl) (λ j d os. (refl, refl)) h in
     let trace = trace_says k given t.0 t.2 in
-    (trace.0, ap (option_and_then (draft_of_trace given)) t.1 ∙ trace.1, λ good. trace.2 (object_within places.Trace places.Trace t.0 ((is_own OwnPlace.trace).own t.0) (optional_within places.Root (codes "trace") (At places.Trace) (refl, refl) ms (object t.0) good (object_there (optional (codes "trace") ms) t.0 t.1))))
+    (trace.0, ap (option_and_then (draft_of_trace given)) t.1 ∙ trace.1, λ good. trace.2 (object_within places.Trace places.Trace t.0 refl (optional_within places.Root (codes "trace") (At places.Trace) (refl, refl) ms (object t.0) good (object_there (optional (codes "trace") ms) t.0 t.1))))
 
 tree_says : (given : Option (List ℕ)) (d : Data) → configuration_flaws d ≡ [] → Says (draft_of given d) (λ draft. IsWithin (At places.Root) d → IsGoodConfig draft.config)
-unfolding inside
+unfolding inside itself_of form_of place_of_properties is_position own_place
 tree_says given d f =
-    let (ms, same, rows) = held_at nothing places.Root d (is_object OwnPlace.root) (content_sound nothing (At places.Root) d f) in
+    let (ms, same, rows) = held_at nothing places.Root d (λ j x ms. (refl, refl)) (content_sound nothing (At places.Root) d f) in
     let root = root_says nothing given ms rows in
-    (root.0, ap (draft_of given) same ∙ root.1, λ good. root.2 (object_within places.Root places.Root ms ((is_own OwnPlace.root).own ms) (subst (λ x. IsWithin (At places.Root) x) same good)))
+    (root.0, ap (draft_of given) same ∙ root.1, λ good. root.2 (object_within places.Root places.Root ms refl (subst (λ x. IsWithin (At places.Root) x) same good)))
 
 -- what has no flaw says something
 pub tree_said : (given : Option (List ℕ)) (d : Data) → configuration_flaws d ≡ [] → IsSome (draft_of given d)

@@ -1,9 +1,9 @@
 -- What is told of a value by itself, and of the name of an entry, is a flaw of it; and where nothing is told it has none.
-use Rattle.std.proofs.Common.{◌≡◌, ◌≢◌, ◌⊎◌, ◌↔◌, ◌≤◌, ◌^◌, ◌%◌, ◌==◌, ◌&&◌, ◌||◌, ℕ, zero, suc, ℤ, pos, negsuc, ◌<ℤ◌, Bool, true, false, not, cond, List, [], ◌∷◌, map, length, Contains, Option, Some, None, is_some, Result, Ok, Err, inl, inr, refl, sym, ap, subst, ◌∙◌, arith, get_or, codes, unwrap_or, option_map, option_and_then, nat_lt, nat_le, nat_eq, int_le}
-use Rattle.conf_laws.proofs.Agreement.{Agrees, IsTrue, dynamic_told, told_dynamic}
-use Rattle.conf_laws.proofs.Numbers.{whole_read, whole_there, lowest_end, highest_end, ReadSo, read_so, end_whole, some_size}
+use Rattle.std.proofs.Common.{IsTrue, ◌≡◌, ◌≢◌, ◌⊎◌, ◌↔◌, ◌≤◌, ◌^◌, ◌%◌, ◌==◌, ◌&&◌, ◌||◌, ℕ, zero, suc, ℤ, pos, negsuc, ◌<ℤ◌, Bool, true, false, not, cond, List, [], ◌∷◌, map, Contains, Option, Some, None, is_some, Result, Ok, Err, inl, inr, refl, sym, ap, subst, ◌∙◌, arith, get_or, codes, unwrap_or, option_map, option_and_then, nat_lt, nat_le, nat_eq, int_le}
+use Rattle.conf_laws.proofs.Agreement.{Agrees, dynamic_told, told_dynamic}
+use Rattle.conf_laws.proofs.Numbers.{whole_read, lowest_end, highest_end, IsRead, range_read, some_size}
 use Rattle.conf_laws.proofs.Readings.{some_none, some_same, by_found, by_test, under_no_test}
-use Rattle.conf_laws.proofs.Words.{Around, enumeration_around, HasNumber, HasBits, IsTaken, IsPowerOfTwo, IsNoPowerOfTwo, IsNoLevel, IsNoWholeOrText, IsNoDefault, IsWhole, IsPair, IsRange, IsNoRange, IsNoSomeList, IsNoSomeObject, IsNoEntry, IsNoFeature, IsNoSizeFeature, IsNoneAt, words_of_classes, IsNoValueOf, IsNoMemberName, IsNoLabel, IsNoKey, IsNoNameAt, ClassWord, class_words, class_in, entries_of, words_of, Place, Content, Entries, Keys, any_object, feature_form as feature, size_feature, form_of, itself_of, Known, only_if, whole_from, is_power_of_two, power_of, whole_or_text, level, leaf_of, is_dynamic, is_taken, free_of, key_by, key_of, all_numbers, natural_in, numbers_of, numbers_in, end_of, pair_of, range_of, is_inside, inside_of, Flaw, PathPart, index, here, within, single_of, ◌>>=◌, at, wanted, text_of, flag_of, whole_of, WrongKind, OutOfRange, BadName, ReservedName, NameClash, NoSuchAlias, refused_here_or_next, none_refused, whole_refused, control_there, name_refused, plain_name_refused, word_listed as listed, both_read, is_passed, IsNoObject, IsNoList, IsNoText, IsNoFlag, IsNoWhole, IsNoConfigText, IsNoUuid, IsNoWordOf, IsControl, IsNoName, IsNoPlainName, name_of, is_reserved, plain_name_of, is_printable, uuid_in, as_natural, Data, boolean, string, array, Items, no_items, item, Members, no_members, member, items_len, members_len, get_member, as_object, as_array, as_str, as_bool, as_number, as_integer, pow_mono, true≢false, false≢true, and_cases, and_parts, and_from, option_map_or, or_parts, or_cases, or_from, cases_lt, eqb-false, eqb-true, ltb-false, ltb-true, leb-true, lt-leb, ne_eqb, agree_below_at, list_any_at, list_all_at, bytes_eq-Decides, list_any, bytes_eq, lowest, highest, length_name, is_name as is_identifier, unused_keywords, used_keywords, divisors_of_pow, same_Some, parsed, le-true, le-false, lt_out, below_in, nat_tests, ⊤}
+use Rattle.conf_laws.proofs.Words.{false_from_ne_true, Around, enumeration_around, HasNumber, HasBits, IsTaken, IsPowerOfTwo, IsNoPowerOfTwo, IsNoLevel, IsNoWholeOrText, IsNoDefault, IsWhole, IsPair, IsRange, IsNoRange, IsNoSomeList, IsNoSomeObject, IsNoEntry, IsNoFeature, IsNoSizeFeature, IsNoneAt, words_of_classes, IsNoValueOf, IsNoMemberName, IsNoLabel, IsNoKey, IsNoNameAt, ClassWord, class_words, class_in, entries_of, words_of, Place, Content, Entries, Keys, any_object, feature_form as feature, size_feature, form_of, itself_of, Known, only_if, whole_from, is_power_of_two, power_of, whole_or_text, level, leaf_of, is_dynamic, is_taken, free_of, key_by, key_of, all_numbers, natural_in, numbers_of, numbers_in, end_of, pair_of, range_of, is_inside, inside_of, Flaw, PathPart, index, here, within, single_of, ◌>>=◌, at, wanted, text_of, flag_of, whole_of, WrongKind, OutOfRange, ReservedName, NameClash, NoSuchAlias, refused_here_or_next, none_refused, whole_refused, control_there, name_refused, plain_name_refused, word_listed as listed, both_read, IsNoObject, IsNoList, IsNoText, IsNoFlag, IsNoWhole, IsNoConfigText, IsNoUuid, IsNoWordOf, IsControl, IsNoName, IsNoPlainName, name_of, is_reserved, plain_name_of, is_printable, uuid_in, as_natural, Data, boolean, string, array, Items, no_items, item, Members, no_members, member, items_len, members_len, get_member, as_object, as_array, as_str, as_bool, as_number, as_integer, pow_mono, true≢false, false≢true, and_cases, and_parts, and_from, option_map_or, or_parts, or_cases, or_from, cases_lt, eqb-false, eqb-true, ltb-false, ltb-true, lt-leb, ne_eqb, agree_below_at, list_any_at, list_all_at, bytes_eq-Decides, list_any, bytes_eq, lowest, highest, length_name, unused_keywords, used_keywords, divisors_of_pow, parsed, le-true, le-false, lt_out, below_in, nat_tests, ⊤}
 use Rattle.conf_laws.proofs.Words.places
 use Rattle.conf_laws.proofs.Words.contents
 use Rattle.conf_laws.proofs.Words.keys
@@ -16,28 +16,23 @@ IsJudged (Ok x) P = (flaw : Flaw) → ¬ P flaw
 IsJudged (Err flaw) P = P flaw
 
 pub both_judged : {A : Type 0} (P : Flaw → Type 0) (r : Result A Flaw) → ((flaw : Flaw) → r ≡ Err flaw → P flaw) → ((x : A) → r ≡ Ok x → (flaw : Flaw) → ¬ P flaw) → IsJudged r P
-both_judged P (Ok x) told clear = clear x refl
-both_judged P (Err flaw) told clear = told flaw refl
+both_judged P r told clear = grind (arith, told, clear)
 
 pub then_judged : {A B : Type 0} (P : Flaw → Type 0) (r : Result A Flaw) (step : A → Result B Flaw) → ((flaw : Flaw) → r ≡ Err flaw → P flaw) → ((x : A) → r ≡ Ok x → IsJudged (step x) P) → IsJudged (r >>= step) P
-then_judged P (Ok x) step first rest = rest x refl
-then_judged P (Err flaw) step first rest = first flaw refl
+then_judged P r step first rest = grind (arith, first, rest)
 
 -- of a value at a place, after whose reading two steps follow
 at_judged : {A B C : Type 0} (P : Flaw → Type 0) (place : PathPart) (r : Result A Flaw) (step : A → Result B Flaw) (last : B → Result C Flaw) → ((flaw : Flaw) → r ≡ Err flaw → P (within place flaw)) → ((x : A) → r ≡ Ok x → IsJudged (step x >>= last) P)
     → IsJudged ((at place r >>= step) >>= last) P
-at_judged P place (Ok x) step last first rest = rest x refl
-at_judged P place (Err flaw) step last first rest = first flaw refl
+at_judged P place r step last first rest = grind (arith, first, rest)
 
 -- of a value of a kind
 pub kind_judged : {A B : Type 0} (P : Flaw → Type 0) (o : Option A) (step : A → Result B Flaw) → (o ≡ None → P (here WrongKind)) → ((x : A) → o ≡ Some x → IsJudged (step x) P) → IsJudged (wanted o >>= step) P
-kind_judged P None step none each = none refl
-kind_judged P (Some x) step none each = each x refl
+kind_judged P o step none each = grind (arith, none, each)
 
 -- of a test
 pub test_judged : (P : Flaw → Type 0) (b : Bool) (f : Flaw) → (b ≡ false → P f) → (b ≡ true → (flaw : Flaw) → ¬ P flaw) → IsJudged {A = ⊤} (cond b (Ok tt) (Err f)) P
-test_judged P true f fails holds = holds refl
-test_judged P false f fails holds = fails refl
+test_judged P b f fails holds = grind (arith, fails, holds)
 
 -- of a text
 text_judged : (P : Flaw → Type 0) (test : List ℕ → Bool) (d : Data) → (as_str d ≡ None → P (here WrongKind)) → ((s : List ℕ) → as_str d ≡ Some s → test s ≡ false → P (here OutOfRange))
@@ -46,8 +41,7 @@ text_judged P test d none fails holds = kind_judged P (as_str d) _ none (λ s is
 
 -- the same flaws in other words
 pub same_judged : {A : Type 0} (P Q : Flaw → Type 0) (r : Result A Flaw) → ((flaw : Flaw) → P flaw → Q flaw) → ((flaw : Flaw) → Q flaw → P flaw) → IsJudged r P → IsJudged r Q
-same_judged P Q (Ok x) to from h = λ flaw wrong. h flaw (from flaw wrong)
-same_judged P Q (Err flaw) to from h = to flaw h
+same_judged P Q r to from h = grind (arith, to, from, h)
 
 -- ---- numbers
 
@@ -55,21 +49,15 @@ same_judged P Q (Err flaw) to from h = to flaw h
 not_both_ways : (a b : ℤ) → int_le a b ≡ true → b <ℤ a → ⊥
 not_both_ways a b e less = omega (arith, le-true a b e, lt_out b a less)
 
-read_excluded : (low high : ℤ) (d : Data) (z : ℤ) (flaw : Flaw) → whole_of low high d ≡ Ok z → ¬ IsNoWhole low high d flaw
-unfolding whole_of
-read_excluded low high d z flaw e (IsNoWhole.no_number none) = absurd (let h = rw none at e in cc)
-read_excluded low high d z flaw e (IsNoWhole.a_fraction y is) = absurd (let h = rw is at e in cc)
-read_excluded low high d z flaw e (IsNoWhole.too_small m y is whole small) =
-    let p = whole_there low high (Some y) z (rw (is, whole) at e) in not_both_ways low y (subst (λ x. int_le low x ≡ true) (sym (same_Some y z p.0)) p.1) small
-read_excluded low high d z flaw e (IsNoWhole.too_large m y is whole large) =
-    let p = whole_there low high (Some y) z (rw (is, whole) at e) in not_both_ways y high (subst (λ x. int_le x high ≡ true) (sym (same_Some y z p.0)) p.2) large
+whole_same : (d : Data) (x z : ℤ) → IsWhole d x → IsWhole d z → x ≡ z
+whole_same d x z (m, is, whole) (n, there, integer) = let same : m ≡ n = some_same (as_number d) m n is there in some_same (as_integer n) x z (ap as_integer (sym same) ∙ whole) integer
+
+whole_excluded : (low high : ℤ) (d : Data) (z : ℤ) (flaw : Flaw) → IsWhole d z → (int_le low z ≡ true) × (int_le z high ≡ true) → ¬ IsNoWhole low high d flaw
+whole_excluded low high d z flaw whole within wrong = grind (arith, not_both_ways, whole, within, wrong)
 
 whole_judged : (low high : ℤ) (d : Data) → IsJudged (whole_from low high d) (IsNoWhole low high d)
 unfolding whole_from
-whole_judged low high d = then_judged (IsNoWhole low high d) (whole_of low high d) _ (whole_refused low high d) (λ z went flaw. read_excluded low high d z flaw went)
-
-whole_same : (d : Data) (x z : ℤ) → IsWhole d x → IsWhole d z → x ≡ z
-whole_same d x z (m, is, whole) (n, there, integer) = let same : m ≡ n = some_same (as_number d) m n is there in some_same (as_integer n) x z (ap as_integer (sym same) ∙ whole) integer
+whole_judged low high d = then_judged (IsNoWhole low high d) (whole_of low high d) _ (whole_refused low high d) (λ z went flaw. let (whole, least, most) = whole_read low high d z went in whole_excluded low high d z flaw whole (least, most))
 
 a_power : (z : ℤ) → is_power_of_two z ≡ true → IsPowerOfTwo z
 a_power (pos n) e =
@@ -93,11 +81,8 @@ unfolding power_of
 power_judged d =
     then_judged (IsNoPowerOfTwo d) (whole_of (pos 1) (pos 18446744073709551615) d) _ (λ flaw r. IsNoPowerOfTwo.no_number (whole_refused (pos 1) (pos 18446744073709551615) d flaw r))
     (λ z went.
-    let read = whole_read (pos 1) (pos 18446744073709551615) d z went in
-    test_judged (IsNoPowerOfTwo d) (is_power_of_two z) (here OutOfRange) (λ fails. IsNoPowerOfTwo.no_power read.0.0 z read.0.1 read.0.2 (no_power z read.2 fails)) (λ holds flaw wrong. elim wrong as (λ f w. ⊥) [
-      | IsNoPowerOfTwo.no_number w ↦ read_excluded (pos 1) (pos 18446744073709551615) d z _ went w
-      | IsNoPowerOfTwo.no_power m y is whole other ↦ other (subst IsPowerOfTwo (whole_same d z y read.0 (m, is, whole)) (a_power z holds))
-    ]))
+    let (one, least, most) = whole_read (pos 1) (pos 18446744073709551615) d z went in
+    test_judged (IsNoPowerOfTwo d) (is_power_of_two z) (here OutOfRange) (λ fails. IsNoPowerOfTwo.no_power one.0 z one.1 one.2 (no_power z most fails)) (λ holds flaw wrong. grind (arith, whole_excluded (pos 1) (pos 18446744073709551615) d z, a_power z, whole_same, one, least, most, holds, wrong)))
 
 -- ---- kinds
 
@@ -140,10 +125,7 @@ members_judged d (member k a ms) is =
 
 entry_judged : (d : Data) (ms : Members) → as_object d ≡ Some ms → IsJudged {A = ⊤} (cond (nat_eq (members_len ms) 1) (Ok tt) (Err (here WrongKind))) (IsNoEntry d)
 entry_judged d ms is =
-    test_judged (IsNoEntry d) (nat_eq (members_len ms) 1) (here WrongKind) (λ fails. IsNoEntry.not_one_property ms is (eqb-false (members_len ms) 1 fails)) (λ holds flaw wrong. elim wrong as (λ f w. ⊥) [
-      | IsNoEntry.no_object w ↦ some_object d ms _ is w
-      | IsNoEntry.not_one_property ns there other ↦ other (ap members_len (some_same (as_object d) ns ms there is) ∙ eqb-true (members_len ms) 1 holds)
-    ])
+    test_judged (IsNoEntry d) (nat_eq (members_len ms) 1) (here WrongKind) (λ fails. IsNoEntry.not_one_property ms is (eqb-false (members_len ms) 1 fails)) (λ holds flaw wrong. grind (arith, nat_tests, some_object d ms, is, holds, wrong))
 
 -- ---- flags and texts
 
@@ -151,10 +133,7 @@ default_judged : (k : Known) (around : Around) → Agrees k around → (d : Data
 default_judged k around h d =
     kind_judged (IsNoDefault around d) (as_bool d) _ (λ none. IsNoDefault.no_flag (IsNoFlag.no_flag none)) (λ b is.
     test_judged (IsNoDefault around d) (not (b && k.has_default)) (here OutOfRange)
-    (λ fails. let both = and_parts b k.has_default (let p : (b && k.has_default) ≡ true = grind (arith, nat_tests) in p) in IsNoDefault.a_second (is ∙ ap Some both.0) (h.second.0 both.1)) (λ holds flaw wrong. elim wrong as (λ f w. ⊥) [
-      | IsNoDefault.no_flag w ↦ some_flag d b _ is w
-      | IsNoDefault.a_second on behind ↦ absurd (let before : k.has_default ≡ true = h.second.1 behind in let flag : b ≡ true = some_same (as_bool d) b true is on in let f = rw (flag, before) at holds in cc)
-    ]))
+    (λ fails. let both = and_parts b k.has_default (let p : (b && k.has_default) ≡ true = grind (arith, nat_tests) in p) in IsNoDefault.a_second (is ∙ ap Some both.0) (h.second.0 both.1)) (λ holds flaw wrong. grind (arith, nat_tests, some_flag d b, h.second.1, is, holds, wrong)))
 
 -- no character of a text that is shown is one of control
 shown_character : (s : List ℕ) (c : ℕ) → is_printable s ≡ true → Contains s c → ¬ IsControl c
@@ -171,8 +150,7 @@ printable_judged d =
     ])
 
 pub none_there : {A : Type 0} (o : Option A) → is_some o ≡ false → o ≡ None
-none_there None e = refl
-none_there (Some x) e = absurd cc
+none_there o e = grind (arith, e)
 
 uuid_excluded : (d : Data) (s : List ℕ) (flaw : Flaw) → as_str d ≡ Some s → is_some (parsed s) ≡ true → ¬ IsNoUuid d flaw
 uuid_excluded d s flaw is holds (IsNoUuid.no_text none) = some_none (as_str d) s is none
@@ -185,18 +163,14 @@ choice_judged d =
     (λ s is fails.
     let parts = or_parts (bytes_eq s (codes "auto")) (is_some (uuid_in s)) fails in
     (λ auto. false≢true (sym parts.0 ∙ (bytes_eq-Decides s (codes "auto")).1 (some_same (as_str d) s (codes "auto") is auto)), IsNoUuid.no_uuid s is (none_there (parsed s) parts.1)))
-    (λ s is holds flaw wrong. elim (or_cases (bytes_eq s (codes "auto")) (is_some (parsed s)) holds) [
-      | inl auto ↦ wrong.0 (is ∙ ap Some ((bytes_eq-Decides s (codes "auto")).0 auto))
-      | inr read ↦ uuid_excluded d s flaw is read wrong.1
-    ])
+    (λ s is holds flaw wrong. grind (arith, (bytes_eq-Decides s (codes "auto")).0, uuid_excluded d s, is, holds, wrong))
 
 -- a word of the list is one that the list has by its bytes
 pub has_by_bytes : (words : List (List ℕ)) (w : List ℕ) → Contains words w → list_any (bytes_eq w) words ≡ true
 has_by_bytes words w (k, among, is) = list_any_at (bytes_eq w) words k w among ((bytes_eq-Decides w (get_or words k w)).1 (sym is))
 
 pub word_excluded : (words : List (List ℕ)) (d : Data) (s : List ℕ) (flaw : Flaw) → as_str d ≡ Some s → Contains words s → ¬ IsNoWordOf words d flaw
-word_excluded words d s flaw is among (IsNoWordOf.no_text none) = some_none (as_str d) s is none
-word_excluded words d s flaw is among (IsNoWordOf.another_word t there other) = other (subst (Contains words) (some_same (as_str d) s t is there) among)
+word_excluded words d s flaw is among wrong = grind (arith, is, among, wrong)
 
 word_judged : (words : List (List ℕ)) (test : List ℕ → Bool) (d : Data) → ((s : List ℕ) → IsTrue (test s) ↔ Contains words s) → IsJudged (text_of d >>= (λ s. only_if (test s))) (IsNoWordOf words d)
 word_judged words test d same =
@@ -224,10 +198,7 @@ whole_or_text_judged low high d = same_judged (IsNoWhole low high d) (IsNoWholeO
     (λ flaw wrong. elim wrong as (λ f w. IsNoWhole low high d f) [ IsNoWholeOrText.no_number none w ↦ w | IsNoWholeOrText.has_control some w ↦ absurd cc ]) (whole_judged low high d)
 
 alias_is : (levels : Members) (high : ℤ) (s : List ℕ) (a : Data) (flaw : Flaw) → get_member s levels ≡ Some a → IsNoLevel levels high (string s) flaw → IsNoWhole (pos 0) high a flaw
-alias_is levels high s a flaw there (IsNoLevel.no_level none wrong) = absurd cc
-alias_is levels high s a flaw there (IsNoLevel.no_alias name is none) = let same : s ≡ name = cc in some_none (get_member name levels) a (rw same at there) none
-alias_is levels high s a flaw there (IsNoLevel.alias_is_no_level name b is found wrong) =
-    let same : s ≡ name = cc in subst (λ x. IsNoWhole (pos 0) high x flaw) (some_same (get_member name levels) b a found (rw same at there)) wrong
+alias_is levels high s a flaw there wrong = grind (arith, there, wrong)
 
 level_judged : (levels : Members) (high : ℤ) (d : Data) → IsJudged (level levels high d) (IsNoLevel levels high d)
 unfolding level
@@ -239,14 +210,6 @@ level_judged levels high d = same_judged (IsNoWhole (pos 0) high d) (IsNoLevel l
 
 -- ---- ranges
 
--- a range that was read is one, and its ends are in what a configuration can hold
-range_known : (d : Data) (low high : ℤ) → ReadSo d low high → IsRange d low high × (int_le lowest_end low ≡ true) × (int_le high highest_end ≡ true)
-range_known d low high (ReadSo.one_number z none e) = let read = whole_read lowest_end highest_end d z e in (IsRange.one_number z read.0, read.1, read.2)
-range_known d low high (ReadSo.two_numbers a b z w pair e f) =
-    let first = whole_read lowest_end highest_end a z e in
-    let second = whole_read lowest_end highest_end b w f in
-    (IsRange.two_numbers a b z w pair first.0 second.0, first.1, second.2)
-
 pub number_there : (name : List ℕ) (ms : Members) (n : ℕ) → natural_in name ms ≡ Some n → HasNumber name ms n
 unfolding natural_in
 number_there name ms n e =
@@ -257,25 +220,17 @@ unfolding natural_in
 number_found name ms n (d, there, is) = ap (option_and_then as_natural) there ∙ is
 
 list_no_number : {P : Type 0} (d : Data) (ds : Items) (z : ℤ) → as_array d ≡ Some ds → IsWhole d z → P
-list_no_number (array es) ds z is (m, number_is, integer) = absurd cc
-list_no_number _ ds z is whole = absurd cc
+list_no_number d ds z is whole = grind (arith, is, whole)
 
 firsts : (d a b c e : Data) → IsPair d a b → IsPair d c e → (a ≡ c) × (b ≡ e)
 firsts d a b c e p q = let same = some_same (as_array d) (item a (item b no_items)) (item c (item e no_items)) p q in (cc, cc)
 
--- a range that was read is the one that the value is
-range_same : (d : Data) (x y low high : ℤ) → ReadSo d x y → IsRange d low high → (x ≡ low) × (y ≡ high)
-range_same d x y low high (ReadSo.one_number z none read) (IsRange.one_number w whole) = let same = whole_same d z w (end_whole d z read) whole in (same, same)
-range_same d x y low high (ReadSo.one_number z none read) (IsRange.two_numbers a b l h pair first second) = some_none (as_array d) (item a (item b no_items)) pair none
-range_same d x y low high (ReadSo.two_numbers a b z w pair first second) (IsRange.one_number v whole) = list_no_number d (item a (item b no_items)) v pair whole
-range_same d x y low high (ReadSo.two_numbers a b z w pair first second) (IsRange.two_numbers c e l h other third fourth) =
-    let same = firsts d a b c e pair other in
-    (whole_same c z l (subst (λ v. IsWhole v z) same.0 (end_whole a z first)) third, whole_same e w h (subst (λ v. IsWhole v w) same.1 (end_whole b w second)) fourth)
+range_same : (d : Data) (x y low high : ℤ) → IsRange d x y → IsRange d low high → (x ≡ low) × (y ≡ high)
+range_same d x y low high one other = grind (arith, whole_same, list_no_number, one, other)
 
 -- a smaller number fails the test
 fails_below : (a b : ℤ) → a <ℤ b → int_le b a ≡ false
-fails_below a b less =
-    by_test (λ (c : Bool). c ≡ false) (int_le b a) (λ is. absurd (not_both_ways b a is less)) (λ is. refl)
+fails_below a b less = false_from_ne_true (int_le b a) (λ is. not_both_ways b a is less)
 
 module _ (around : Around) where
   -- what holds of the numbers of the enumeration around a value, where they are not all
@@ -317,43 +272,36 @@ module _ (around : Around) where
   abbrev IsOutside : ℤ → ℤ → Type 0
   IsOutside x y = (y <ℤ x) ⊎ (((signed : Bool) × (n : ℕ) × HasBits around signed n × (x <ℤ lowest signed n)) ⊎ ((signed : Bool) × (n : ℕ) × HasBits around signed n × (highest signed n <ℤ y)))
 
-  inside_excluded : (d : Data) (flaw : Flaw) (x y : ℤ) → ReadSo d x y → ¬ IsOutside x y → ¬ IsNoRange around d flaw
-  inside_excluded d flaw x y (ReadSo.one_number z none first) inside (IsNoRange.wrong_number list wrong) = read_excluded lowest_end highest_end d z flaw first wrong
-  inside_excluded d flaw x y (ReadSo.two_numbers a b z w pair first second) inside (IsNoRange.wrong_number list wrong) = some_none (as_array d) (item a (item b no_items)) pair list
-  inside_excluded d flaw x y (ReadSo.one_number z none first) inside (IsNoRange.no_pair ds is other) = some_none (as_array d) ds is none
-  inside_excluded d flaw x y (ReadSo.two_numbers a b z w pair first second) inside (IsNoRange.no_pair ds is other) = other (ap items_len (some_same (as_array d) ds (item a (item b no_items)) is pair))
-  inside_excluded d flaw x y (ReadSo.one_number z none first) inside (IsNoRange.wrong_low a b f pair wrong) = some_none (as_array d) (item a (item b no_items)) pair none
-  inside_excluded d flaw x y (ReadSo.two_numbers a b z w pair first second) inside (IsNoRange.wrong_low c e f other wrong) = read_excluded lowest_end highest_end c z f (subst (λ v. end_of v ≡ Ok z) (firsts d a b c e pair other).0 first) wrong
-  inside_excluded d flaw x y (ReadSo.one_number z none first) inside (IsNoRange.wrong_high a b f pair wrong) = some_none (as_array d) (item a (item b no_items)) pair none
-  inside_excluded d flaw x y (ReadSo.two_numbers a b z w pair first second) inside (IsNoRange.wrong_high c e f other wrong) = read_excluded lowest_end highest_end e w f (subst (λ v. end_of v ≡ Ok w) (firsts d a b c e pair other).1 second) wrong
-  inside_excluded d flaw x y read inside (IsNoRange.low_above_high low high is less) = let same = range_same d x y low high read is in inside (inl (subst (λ z. y <ℤ z) (sym same.0) (subst (λ z. z <ℤ low) (sym same.1) less)))
-  inside_excluded d flaw x y read inside (IsNoRange.below_the_integer low high signed n is bits less) = inside (inr (inl (signed, n, bits, subst (λ z. z <ℤ lowest signed n) (sym (range_same d x y low high read is).0) less)))
-  inside_excluded d flaw x y read inside (IsNoRange.above_the_integer low high signed n is bits more) = inside (inr (inr (signed, n, bits, subst (λ z. highest signed n <ℤ z) (sym (range_same d x y low high read is).1) more)))
+  inside_excluded : (d : Data) (flaw : Flaw) (x y : ℤ) → IsRead d x y → ¬ IsOutside x y → ¬ IsNoRange around d flaw
+  inside_excluded d flaw x y (IsRange.one_number z one, end, last) inside (IsNoRange.wrong_number list wrong) = whole_excluded lowest_end highest_end d z flaw one end wrong
+  inside_excluded d flaw x y (IsRange.two_numbers a b z w pair first second, end, last) inside (IsNoRange.wrong_number list wrong) = some_none (as_array d) (item a (item b no_items)) pair list
+  inside_excluded d flaw x y (IsRange.one_number z one, end, last) inside (IsNoRange.no_pair ds is other) = list_no_number d ds z is one
+  inside_excluded d flaw x y (IsRange.two_numbers a b z w pair first second, end, last) inside (IsNoRange.no_pair ds is other) = other (ap items_len (some_same (as_array d) ds (item a (item b no_items)) is pair))
+  inside_excluded d flaw x y (IsRange.one_number z one, end, last) inside (IsNoRange.wrong_low a b f pair wrong) = list_no_number d (item a (item b no_items)) z pair one
+  inside_excluded d flaw x y (IsRange.two_numbers a b z w pair first second, end, last) inside (IsNoRange.wrong_low c e f other wrong) = whole_excluded lowest_end highest_end c z f (subst (λ v. IsWhole v z) (firsts d a b c e pair other).0 first) end wrong
+  inside_excluded d flaw x y (IsRange.one_number z one, end, last) inside (IsNoRange.wrong_high a b f pair wrong) = list_no_number d (item a (item b no_items)) z pair one
+  inside_excluded d flaw x y (IsRange.two_numbers a b z w pair first second, end, last) inside (IsNoRange.wrong_high c e f other wrong) = whole_excluded lowest_end highest_end e w f (subst (λ v. IsWhole v w) (firsts d a b c e pair other).1 second) last wrong
+  inside_excluded d flaw x y (read, end, last) inside (IsNoRange.low_above_high low high is less) = let same = range_same d x y low high read is in inside (inl (subst (λ z. y <ℤ z) (sym same.0) (subst (λ z. z <ℤ low) (sym same.1) less)))
+  inside_excluded d flaw x y (read, end, last) inside (IsNoRange.below_the_integer low high signed n is bits less) = inside (inr (inl (signed, n, bits, subst (λ z. z <ℤ lowest signed n) (sym (range_same d x y low high read is).0) less)))
+  inside_excluded d flaw x y (read, end, last) inside (IsNoRange.above_the_integer low high signed n is bits more) = inside (inr (inr (signed, n, bits, subst (λ z. highest signed n <ℤ z) (sym (range_same d x y low high read is).1) more)))
 
   module _ (numbers : _) (agrees : numbers ≡ unwrap_or (option_map (λ (e : Bool × Members). numbers_in e.0 e.1) (enumeration_around around)) all_numbers) where
     read_judged : (d : Data) (range : _) → range_of d ≡ Ok range → IsJudged {A = ⊤} (cond (is_inside numbers range) (Ok tt) (Err (here OutOfRange))) (IsNoRange around d)
     unfolding is_inside
     read_judged d range went =
-        let so = read_so d range went in
+        let read = range_read d range went in
+        let is_range = read.0 in
         let x = range.low in
         let y = range.high in
-        let (is_range, least, most) = range_known d x y so in
-        let low = below numbers agrees x least in
-        let high = above numbers agrees y most in
+        let low = below numbers agrees x read.1.0 in
+        let high = above numbers agrees y read.2.1 in
         test_judged (IsNoRange around d) (int_le x y && int_le numbers.low x && int_le y numbers.high) (here OutOfRange) (λ fails. elim (and_cases (int_le x y && int_le numbers.low x) (int_le y numbers.high) fails) [
           | inr large ↦ let o = high.0 large in IsNoRange.above_the_integer x y o.0 o.1 is_range o.2 o.3
           | inl either ↦ elim (and_cases (int_le x y) (int_le numbers.low x) either) [
             | inl empty ↦ IsNoRange.low_above_high x y is_range (below_in y x (le-false x y empty))
             | inr small ↦ let o = low.0 small in IsNoRange.below_the_integer x y o.0 o.1 is_range o.2 o.3
           ]
-        ]) (λ holds flaw.
-        let p = and_parts (int_le x y && int_le numbers.low x) (int_le y numbers.high) holds in
-        let q = and_parts (int_le x y) (int_le numbers.low x) p.0 in
-        inside_excluded d flaw x y so (λ outside. elim outside [
-          | inl empty ↦ not_both_ways x y q.0 empty
-          | inr (inl small) ↦ false≢true (sym (low.1 small) ∙ q.1)
-          | inr (inr large) ↦ false≢true (sym (high.1 large) ∙ p.1)
-        ]))
+        ]) (λ holds flaw. inside_excluded d flaw x y read (λ outside. grind (arith, not_both_ways x y, low.1, high.1, holds, outside)))
 
     range_judged : (d : Data) → IsJudged (inside_of numbers d) (IsNoRange around d)
     unfolding inside_of range_of pair_of
@@ -406,9 +354,7 @@ module _ (k : Known) (around : Around) (h : Agrees k around) where
 
 name_excluded : (name : List ℕ) (flaw : Flaw) → name_of name ≡ Ok tt → ¬ IsNoName name flaw
 unfolding name_of
-name_excluded name flaw e (IsNoName.no_identifier none) = absurd (let h = rw none at e in cc)
-name_excluded name flaw e (IsNoName.too_long long) =
-    let p = and_parts (is_identifier name) (nat_le (length name) 255) (is_passed (is_identifier name && nat_le (length name) 255) tt tt (here BadName) e).0 in omega (arith, leb-true (length name) 255 p.1, long)
+name_excluded name flaw e wrong = grind (arith, nat_tests, e, wrong)
 
 plain_judged : (name : List ℕ) → IsJudged (plain_name_of name) (IsNoPlainName name)
 unfolding plain_name_of is_reserved

@@ -1,6 +1,6 @@
 -- The words and lemmas of std and of the crates below that the proofs speak of, and those of the definitions.
 pub use Rattle.std.proofs.{Math.Bool.and-false, Math.Nat.{mul-mod_right, mul-one, one-le-mul}, Math.Pow.pow_mono}
-pub use Rattle.std.proofs.lemmas.Bool.{agree_below_at, and_cases, and_from, and_left, and_parts, and_right, cases_lt, eq-eqb, eqb-false, eqb-true, false≢true, leb-false}
+pub use Rattle.std.proofs.lemmas.Bool.{agree_below_at, and_cases, and_from, and_left, and_parts, and_right, cases_lt, eq-eqb, eqb-false, eqb-true, false_from_ne_true, false≢true, leb-false}
 pub use Rattle.std.proofs.lemmas.Bool.{leb-true, lt-leb, ltb-false, ltb-true, ne_eqb, or_cases, or_from, or_left, or_parts, or_right, true≢false}
 pub use Rattle.std.proofs.{lemmas.Bool.Decides.nat_tests, lemmas.Cmp.{nat_list_cmp_total, tied_itself}, lemmas.Float.T_from_true}
 pub use Rattle.std.proofs.lemmas.List.Elements.{All-append, All-cons, All-contains, All-from_recursion, All-map, All-nil, All-push, All-weaker}
