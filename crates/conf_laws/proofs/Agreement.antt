@@ -1,6 +1,6 @@
 -- What a judge knows around a value is what the value stands in.
 use Rattle.std.proofs.Common.{IsTrue, ◌≡◌, ◌⊎◌, ◌+◌, ◌<◌, ℕ, zero, suc, Some, inl, inr, sym, ap, subst, ◌∙◌, arith, ◌↔◌, ◌||◌, Bool, true, List, [], ◌∷◌, Contains, Option, refl, unwrap_or, option_map, option_and_then, cond}
-use Rattle.conf_laws.proofs.Words.{Around, member_of, item_of, levels_around, SaysDefault, HasDefault, IsBehindDefault, enumeration_around, IsDynamic, TakesName, IsBeside, IsTaken, Place, class_of, is_dynamic_array, Known, nothing, inside, behind, with_taken, is_true, says_default, class_of_member, is_dynamic, take, take_each, take_all, names_beside, with_names, is_taken, all_numbers, numbers_in, HasMember, get_member-put, get_member-put_other, Data, Items, item, null, boolean, object, Members, no_members, member, get_item, as_object, cases_lt, false≢true, or_cases, or_left, or_right, bytes_eq-Decides, own_names, length_name}
+use Rattle.conf_laws.proofs.Words.{nat_tests, Around, member_of, item_of, levels_around, SaysDefault, HasDefault, IsBehindDefault, enumeration_around, IsDynamic, TakesName, IsBeside, IsTaken, Place, class_of, is_dynamic_array, Known, nothing, inside, behind, with_taken, is_true, says_default, class_of_member, is_dynamic, take, take_each, take_all, names_beside, with_names, is_taken, all_numbers, numbers_in, HasMember, get_member-put, get_member-put_other, Data, Items, item, null, boolean, object, Members, no_members, member, get_item, as_object, cases_lt, false≢true, or_cases, or_left, or_right, bytes_eq-Decides, own_names, length_name}
 use Rattle.conf_laws.proofs.Words.places
 use Rattle.conf_laws.proofs.Readings.{some_same, class_told, only_dynamic}
 
@@ -132,9 +132,8 @@ Takes taken place all i = (name : List ℕ) → IsTrue (is_taken taken name) ↔
 
 pub takes_beside : (place : Place) (all : Items) → Takes (names_beside place) place all 0
 unfolding names_beside
-takes_beside places.ExtraMembers all = λ name. let each = each_taken own_names no_members name in
-    (λ t. elim (each.0 t) [ inl c ↦ inr c | inr none ↦ absurd (false≢true none) ], λ p. elim p [ inl (j, entry, less, is, named) ↦ absurd (omega (arith, less)) | inr c ↦ each.1 (inl c) ])
-takes_beside _ all = λ name. (λ t. absurd (false≢true t), λ p. elim p [ inl (j, entry, less, is, named) ↦ absurd (omega (arith, less)) | inr none ↦ absurd none ])
+takes_beside places.ExtraMembers all = λ name. grind (arith, each_taken own_names no_members name)
+takes_beside _ all = λ name. grind arith
 
 pub takes_further : (taken : Members) (place : Place) (all : Items) (i : ℕ) (d : Data) → get_item i all ≡ Some d → Takes taken place all i → Takes (with_names d taken) place all (suc i)
 takes_further taken place all i d is h = λ name. joined (entry_taken d taken name) (h name)

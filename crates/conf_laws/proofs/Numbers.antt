@@ -25,10 +25,7 @@ number_there d m e = grind (arith, e)
 
 natural_of_whole : (low high : ℕ) (d : Data) (z : ℤ) → IsWhole d z → int_le (pos low) z ≡ true → int_le z (pos high) ≡ true → high ≤ 18446744073709551615 → NaturalIn low high d
 unfolding as_natural
-natural_of_whole low high d (pos n) whole least below most =
-    let small : nat_le n 18446744073709551615 ≡ true = le-leb n 18446744073709551615 (let b = leb-true n high below in omega arith) in
-    (n, ap natural_or_none (ap integer_or_none whole.1 ∙ whole.2) ∙ rw small refl, least, below, number_there d whole.0 whole.1)
-natural_of_whole low high d (negsuc n) whole least below most = absurd (false≢true least)
+natural_of_whole low high d z whole least below most = grind (arith, nat_tests, whole, least, below, most)
 
 natural_read : (low high : ℕ) (d : Data) → whole_from (pos low) (pos high) d ≡ Ok tt → high ≤ 18446744073709551615 → NaturalIn low high d
 unfolding whole_from

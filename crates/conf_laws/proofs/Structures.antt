@@ -66,7 +66,7 @@ unfolding IsDistinct
 distinct_last [] y h free = (tt, tt)
 distinct_last (x ∷ xs) y h free =
     let p = or_parts (bytes_eq y x) (list_any (bytes_eq y) xs) free in
-    let apart : bytes_eq x y ≡ false = by_test (λ (b : Bool). b ≡ false) (bytes_eq x y) (λ is. absurd (false≢true (sym p.0 ∙ (bytes_eq-Decides y x).1 (sym ((bytes_eq-Decides x y).0 is))))) (λ is. refl) in
+    let apart : bytes_eq x y ≡ false = grind (arith, nat_tests, bytes_eq-Decides x y, bytes_eq-Decides y x, p.0) in
     (all_joined (λ z. bytes_eq x z ≡ false) xs (y ∷ []) h.0 (apart, tt), distinct_last xs y h.1 p.1)
 
 -- names that are taken, apart from each other and from those that were taken before

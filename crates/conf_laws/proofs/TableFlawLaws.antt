@@ -40,10 +40,7 @@ module _ (place : Place) (ms : Members) where
         (λ none. IsNoClassAt.no_class position (inr (d, here OutOfRange, there, IsNoWordOf.another_word w text (λ among. true≢false (sym ((class_word w).1 among) ∙ ap is_some none)), refl)))
         (λ class found.
         let said : class_of ms ≡ Some class = ap class_said there ∙ ap class_named text ∙ found in
-        test_judged (IsNoClassAt place ms) (admits_class place class) (here (other_class place)) (λ fails. elim (other_told place) [
-          | inl (identifier, kind) ↦ subst (λ k. IsNoClassAt place ms (here k)) (sym kind) (IsNoClassAt.no_array class identifier said fails)
-          | inr (other, kind) ↦ subst (λ k. IsNoClassAt place ms (here k)) (sym kind) (IsNoClassAt.another_class class position other said fails)
-        ]) (λ holds flaw. class_excluded d w class flaw there text found said holds))
+        test_judged (IsNoClassAt place ms) (admits_class place class) (here (other_class place)) (λ fails. grind (arith, other_told place, position, said, fails, IsNoClassAt.no_array, IsNoClassAt.another_class)) (λ holds flaw. class_excluded d w class flaw there text found said holds))
 
   no_position : (flaw : Flaw) → is_position place ≡ false → ¬ IsNoClassAt place ms flaw
   unfolding is_position

@@ -136,11 +136,9 @@ at_told place d e = elim (and_cases (arrays_fit place d) (at_most (entries_of pl
 
 at_fails : (place : Place) (d : Data) → PassesAt place d → place_fits place d ≡ false
 unfolding place_fits ranges_fit arrays_fit
-at_fails place d (PassesAt.too_many_entries entries most is number_is more) =
-    let counted : at_most (Some entries) (count_of d) ≡ nat_le (count_of d) most = rw number_is refl in
-    and_right (arrays_fit place d) _ (and_left (at_most (entries_of place) (count_of d)) (ranges_fit place d) (ap (λ o. at_most o (count_of d)) is ∙ counted ∙ lt-leb (count_of d) most more))
-at_fails place d (PassesAt.too_many_ranges is more) = and_right (arrays_fit place d) _ (and_right (at_most (entries_of place) (count_of d)) (ranges_fit place d) (subst (λ p. ranges_fit p d ≡ false) (sym is) (lt-leb (ranges_of d) 1024 more)))
-at_fails place d (PassesAt.too_many_elements outermost many) = and_left (arrays_fit place d) _ (rw outermost (by_found (λ (o : Option ℕ). Measured 8 d o → is_some o ≡ false) (elements 8 d) (λ none m. refl) (λ m some counted. absurd (counted_few d m counted many)) (measured 8 d)))
+at_fails place d (PassesAt.too_many_entries entries most is number_is more) = grind (arith, nat_tests, is, number_is, more)
+at_fails place d (PassesAt.too_many_ranges is more) = grind (arith, nat_tests, is, more)
+at_fails place d (PassesAt.too_many_elements outermost many) = grind (arith, nat_tests, outermost, by_found (λ (o : Option ℕ). Measured 8 d o → is_some o ≡ false) (elements 8 d) (λ none m. refl) (λ m some counted. absurd (counted_few d m counted many)) (measured 8 d))
 
 pub by_fails : (content : Content) (d : Data) → (fits content d ≡ false) ↔ PassesBy content d
 unfolding fits

@@ -101,15 +101,11 @@ object_judged d = kind_judged (IsNoObject d) (as_object d) _ IsNoObject.no_objec
 
 feature_judged : (d : Data) → IsJudged (feature d) (IsNoFeature d)
 unfolding feature
-feature_judged (boolean b) = λ flaw wrong. absurd (let none = wrong.0 in cc)
-feature_judged d = same_judged (IsNoObject d) (IsNoFeature d) (any_object d) (λ flaw wrong. (refl, wrong)) (λ flaw wrong. wrong.1) (object_judged d)
+feature_judged d = grind (arith, object_judged d)
 
 size_judged : (d : Data) → IsJudged (size_feature d) (IsNoSizeFeature d)
 unfolding size_feature
-size_judged (boolean true) = λ flaw wrong. elim wrong as (λ f w. ⊥) [ IsNoSizeFeature.no_feature w ↦ absurd (let none = w.0 in cc) | IsNoSizeFeature.is_off is ↦ absurd cc ]
-size_judged (boolean false) = IsNoSizeFeature.is_off refl
-size_judged d = same_judged (IsNoObject d) (IsNoSizeFeature d) (any_object d) (λ flaw wrong. IsNoSizeFeature.no_feature (refl, wrong))
-    (λ flaw wrong. elim wrong as (λ f w. IsNoObject d f) [ IsNoSizeFeature.no_feature w ↦ w.1 | IsNoSizeFeature.is_off is ↦ absurd cc ]) (object_judged d)
+size_judged d = grind (arith, object_judged d, IsNoSizeFeature.no_feature, IsNoSizeFeature.is_off)
 
 items_judged : (d : Data) (ds : Items) → as_array d ≡ Some ds → IsJudged (only_if (nat_lt 0 (items_len ds))) (IsNoSomeList d)
 items_judged d no_items is = IsNoSomeList.has_none is
@@ -124,16 +120,12 @@ members_judged d (member k a ms) is =
     (λ holds flaw wrong. elim wrong as (λ f w. ⊥) [ IsNoSomeObject.no_object w ↦ some_object d (member k a ms) _ is w | IsNoSomeObject.has_none none ↦ absurd cc ])
 
 entry_judged : (d : Data) (ms : Members) → as_object d ≡ Some ms → IsJudged {A = ⊤} (cond (nat_eq (members_len ms) 1) (Ok tt) (Err (here WrongKind))) (IsNoEntry d)
-entry_judged d ms is =
-    test_judged (IsNoEntry d) (nat_eq (members_len ms) 1) (here WrongKind) (λ fails. IsNoEntry.not_one_property ms is (eqb-false (members_len ms) 1 fails)) (λ holds flaw wrong. grind (arith, nat_tests, some_object d ms, is, holds, wrong))
+entry_judged d ms is = grind (arith, nat_tests, some_object d ms, is, IsNoEntry.not_one_property)
 
 -- ---- flags and texts
 
 default_judged : (k : Known) (around : Around) → Agrees k around → (d : Data) → IsJudged (flag_of d >>= (λ b. only_if (not (b && k.has_default)))) (IsNoDefault around d)
-default_judged k around h d =
-    kind_judged (IsNoDefault around d) (as_bool d) _ (λ none. IsNoDefault.no_flag (IsNoFlag.no_flag none)) (λ b is.
-    test_judged (IsNoDefault around d) (not (b && k.has_default)) (here OutOfRange)
-    (λ fails. let both = and_parts b k.has_default (let p : (b && k.has_default) ≡ true = grind (arith, nat_tests) in p) in IsNoDefault.a_second (is ∙ ap Some both.0) (h.second.0 both.1)) (λ holds flaw wrong. grind (arith, nat_tests, some_flag d b, h.second.1, is, holds, wrong)))
+default_judged k around h d = grind (arith, nat_tests, some_flag d, h.second, IsNoDefault.no_flag, IsNoFlag.no_flag, IsNoDefault.a_second)
 
 -- no character of a text that is shown is one of control
 shown_character : (s : List ℕ) (c : ℕ) → is_printable s ≡ true → Contains s c → ¬ IsControl c
@@ -192,21 +184,14 @@ class_word s = (class_word_listed class_words s, no_class_word class_words s)
 
 whole_or_text_judged : (low high : ℤ) (d : Data) → IsJudged (whole_or_text low high d) (IsNoWholeOrText low high d)
 unfolding whole_or_text
-whole_or_text_judged low high (string s) = same_judged (IsNoConfigText (string s)) (IsNoWholeOrText low high (string s)) (only_if (is_printable s)) (λ flaw wrong. IsNoWholeOrText.has_control refl wrong)
-    (λ flaw wrong. elim wrong as (λ f w. IsNoConfigText (string s) f) [ IsNoWholeOrText.no_number none w ↦ absurd cc | IsNoWholeOrText.has_control some w ↦ w ]) (printable_judged (string s))
-whole_or_text_judged low high d = same_judged (IsNoWhole low high d) (IsNoWholeOrText low high d) (whole_from low high d) (λ flaw wrong. IsNoWholeOrText.no_number refl wrong)
-    (λ flaw wrong. elim wrong as (λ f w. IsNoWhole low high d f) [ IsNoWholeOrText.no_number none w ↦ w | IsNoWholeOrText.has_control some w ↦ absurd cc ]) (whole_judged low high d)
+whole_or_text_judged low high d = grind (arith, printable_judged d, whole_judged low high d, IsNoWholeOrText.no_number, IsNoWholeOrText.has_control)
 
 alias_is : (levels : Members) (high : ℤ) (s : List ℕ) (a : Data) (flaw : Flaw) → get_member s levels ≡ Some a → IsNoLevel levels high (string s) flaw → IsNoWhole (pos 0) high a flaw
 alias_is levels high s a flaw there wrong = grind (arith, there, wrong)
 
 level_judged : (levels : Members) (high : ℤ) (d : Data) → IsJudged (level levels high d) (IsNoLevel levels high d)
 unfolding level
-level_judged levels high (string s) =
-    by_found (λ (o : Option Data). IsJudged (option_map_or (whole_from (pos 0) high) o (Err (here NoSuchAlias))) (IsNoLevel levels high (string s))) (get_member s levels) (λ none. IsNoLevel.no_alias s refl none)
-    (λ a there. same_judged (IsNoWhole (pos 0) high a) (IsNoLevel levels high (string s)) (whole_from (pos 0) high a) (λ flaw wrong. IsNoLevel.alias_is_no_level s a refl there wrong) (λ flaw. alias_is levels high s a flaw there) (whole_judged (pos 0) high a))
-level_judged levels high d = same_judged (IsNoWhole (pos 0) high d) (IsNoLevel levels high d) (whole_from (pos 0) high d) (λ flaw wrong. IsNoLevel.no_level refl wrong)
-    (λ flaw wrong. elim wrong as (λ f w. IsNoWhole (pos 0) high d f) [ IsNoLevel.no_level none w ↦ w | IsNoLevel.no_alias name is none ↦ absurd cc | IsNoLevel.alias_is_no_level name a is there w ↦ absurd cc ]) (whole_judged (pos 0) high d)
+level_judged levels high d = grind (arith, whole_judged (pos 0) high, IsNoLevel.no_level, IsNoLevel.no_alias, IsNoLevel.alias_is_no_level)
 
 -- ---- ranges
 
@@ -295,13 +280,7 @@ module _ (around : Around) where
         let y = range.high in
         let low = below numbers agrees x read.1.0 in
         let high = above numbers agrees y read.2.1 in
-        test_judged (IsNoRange around d) (int_le x y && int_le numbers.low x && int_le y numbers.high) (here OutOfRange) (λ fails. elim (and_cases (int_le x y && int_le numbers.low x) (int_le y numbers.high) fails) [
-          | inr large ↦ let o = high.0 large in IsNoRange.above_the_integer x y o.0 o.1 is_range o.2 o.3
-          | inl either ↦ elim (and_cases (int_le x y) (int_le numbers.low x) either) [
-            | inl empty ↦ IsNoRange.low_above_high x y is_range (below_in y x (le-false x y empty))
-            | inr small ↦ let o = low.0 small in IsNoRange.below_the_integer x y o.0 o.1 is_range o.2 o.3
-          ]
-        ]) (λ holds flaw. inside_excluded d flaw x y read (λ outside. grind (arith, not_both_ways x y, low.1, high.1, holds, outside)))
+        test_judged (IsNoRange around d) (int_le x y && int_le numbers.low x && int_le y numbers.high) (here OutOfRange) (λ fails. grind (arith, nat_tests, fails, is_range, low.0, high.0, below_in y x, le-false x y, IsNoRange.low_above_high, IsNoRange.below_the_integer, IsNoRange.above_the_integer)) (λ holds flaw. inside_excluded d flaw x y read (λ outside. grind (arith, not_both_ways x y, low.1, high.1, holds, outside)))
 
     range_judged : (d : Data) → IsJudged (inside_of numbers d) (IsNoRange around d)
     unfolding inside_of range_of pair_of
@@ -371,10 +350,7 @@ module _ (k : Known) (around : Around) (h : (name : List ℕ) → IsTrue (is_tak
   unfolding free_of
   clash_judged name d plain =
       let long = is_dynamic d && is_taken k.taken (length_name name) in
-      by_test (λ (b : Bool). IsJudged {A = ⊤} (cond b (Err (here NameClash)) (Ok tt)) (IsNoMemberName around name d)) (is_taken k.taken name || long) (λ clash. elim (or_cases (is_taken k.taken name) long clash) [
-        | inl taken ↦ IsNoMemberName.name_clash ((h name).0 taken)
-        | inr both ↦ let p = and_parts (is_dynamic d) (is_taken k.taken (length_name name)) both in IsNoMemberName.length_clash (dynamic_told d p.0) ((h (length_name name)).0 p.1)
-      ])
+      by_test (λ (b : Bool). IsJudged {A = ⊤} (cond b (Err (here NameClash)) (Ok tt)) (IsNoMemberName around name d)) (is_taken k.taken name || long) (λ clash. grind (arith, nat_tests, (h name).0, (h (length_name name)).0, dynamic_told d, clash, IsNoMemberName.name_clash, IsNoMemberName.length_clash))
       (λ free flaw wrong. let p = or_parts (is_taken k.taken name) long free in elim wrong as (λ f w. ⊥) [
         | IsNoMemberName.no_name w ↦ plain _ w
         | IsNoMemberName.name_clash taken ↦ false≢true (sym p.0 ∙ (h name).1 taken)
