@@ -113,14 +113,8 @@ all_taken (member k d ms) taken name =
     (λ (l, e, has, named). elim has [ inl same ↦ inr (subst (λ x. TakesAs x d name) same.0 (subst (λ x. TakesAs l x name) same.1 named)) | inr later ↦ inl (l, e, later, named) ])
 
 entry_taken : (d : Data) (taken : Members) (name : List ℕ) → IsTrue (is_taken (with_names d taken) name) ↔ (TakesName d name ⊎ IsTrue (is_taken taken name))
-entry_taken (object ms) taken name = let all = all_taken ms taken name in (
-  λ t. elim (all.0 t) [ inl m ↦ inl (ms, m.0, m.1, refl, m.2, m.3) | inr u ↦ inr u ],
-  λ p. elim p [
-    | inl (ns, k, d, is, has, named) ↦ let same : ns ≡ ms = cc in all.1 (inl (k, d, subst (HasMember k d) same has, named))
-    | inr u ↦ all.1 (inr u)
-  ],
-)
-entry_taken _ taken name = (λ t. inr t, λ p. elim p [ inl (ms, k, d, is, has, named) ↦ absurd cc | inr u ↦ u ])
+entry_taken (object ms) taken name = grind (arith, all_taken ms taken name)
+entry_taken _ taken name = grind arith
 
 -- an entry before place i takes the name
 abbrev IsTakenBefore : Items → ℕ → List ℕ → Type 0
@@ -136,13 +130,7 @@ takes_beside places.ExtraMembers all = λ name. grind (arith, each_taken own_nam
 takes_beside _ all = λ name. grind arith
 
 pub takes_further : (taken : Members) (place : Place) (all : Items) (i : ℕ) (d : Data) → get_item i all ≡ Some d → Takes taken place all i → Takes (with_names d taken) place all (suc i)
-takes_further taken place all i d is h = λ name. joined (entry_taken d taken name) (h name)
-    (λ p. elim p [ inl takes ↦ (i, d, omega arith, is, takes) | inr (j, entry, less, there, named) ↦ (j, entry, omega (arith, less), there, named) ])
-    (λ (j, entry, less, there, named). elim (cases_lt j i) [
-      | inl small ↦ inr (j, entry, small, there, named)
-      | inr large ↦
-          let same : j ≡ i = omega (arith, less, large) in inl (subst (λ e. TakesName e name) (some_same (get_item i all) entry d (subst (λ n. get_item n all ≡ Some entry) same there) is) named)
-    ])
+takes_further taken place all i d is h = λ name. grind (arith, entry_taken d taken name, h name, is)
 
 -- what is taken at an item is what the items before it in its list take
 pub item_agrees : (k : Known) (around : Around) (taken : Members) (place : Place) (all : Items) (i : ℕ) → Agrees k around → Takes taken place all i → Agrees (with_taken taken k) (item_of place all i ∷ around)

@@ -166,10 +166,7 @@ numbers_are k signed ms t known says =
 
 -- a range inside the numbers of an integer of this size and sign
 range_in : (k : Known) (t : IntType) (m : Mapping) → AreNumbersOf k t → IsGoodMapping k m → IsRangeOf t m
-range_in k t m is h =
-    let p = and_parts (int_le m.low m.high && int_le k.numbers.low m.low) (int_le m.high k.numbers.high) h.inside in
-    let q = and_parts (int_le m.low m.high) (int_le k.numbers.low m.low) p.0 in
-    record { ordered = le_z_yes (T_from_true _ q.0); above = le_z_yes (T_from_true _ (subst (λ z. int_le z m.low ≡ true) is.0 q.1)); below = le_z_yes (T_from_true _ (subst (λ z. int_le m.high z ≡ true) is.1 p.1)) }
+range_in k t m is h = grind (arith, nat_tests, is, h)
 
 -- ---- the whole
 

@@ -53,10 +53,7 @@ module _ (ms : Members) (static : option_map_or is_static_array (class_of ms) fa
   array_allowed one = record { leaf = one.leaf; bits = bits; nests = nests }
     where
       bits : has_bits (object ms) ≡ true → AllByRecursion (λ n. 0 < n) (length_of ms ∷ (chain_of inner).lengths)
-      bits some =
-          let p = and_parts (not (is_number (natural_in (codes "length") ms) 0)) _ (rw static at some) in
-          let own : not (nat_eq n 0) ≡ true = ap (λ o. not (is_number o 0)) (sym is ∙ same_natural (codes "length") ms) ∙ p.0 in
-          (subst (λ o. 0 < unwrap_or o 0) (sym is) (let some : 0 < n = grind (arith, nat_tests) in some), one.bits (ap (λ o. option_map_or has_bits o true) (sym there) ∙ sym (element_bits ms) ∙ p.1))
+      bits some = grind (arith, nat_tests, static, is, there, same_natural (codes "length") ms, element_bits ms, one.bits, some)
 
       nests : (levels m : ℕ) → elements levels (object ms) ≡ Some m → Nests levels m (Static (chain_of inner) (length_of ms))
       nests zero m e = absurd (let none = rw static at e in cc)

@@ -11,10 +11,7 @@ whole_there low high found z e = grind (arith, nat_tests, e)
 -- a whole number that was read, and that it is between its bounds
 pub whole_read : (low high : ℤ) (d : Data) (z : ℤ) → whole_of low high d ≡ Ok z → IsWhole d z × (int_le low z ≡ true) × (int_le z high ≡ true)
 unfolding whole_of
-whole_read low high d z e =
-    let m = both_read (wanted (as_number d)) (λ n. whole_or_not low high (as_integer n)) z e in
-    let there = whole_there low high (as_integer m.0) z m.2 in
-    ((m.0, wanted_found (as_number d) m.0 m.1, there.0), there.1, there.2)
+whole_read low high d z e = grind (arith, nat_tests, e)
 
 -- the value is a whole number from low to high, a natural number
 abbrev NaturalIn : ℕ → ℕ → Data → Type 0
@@ -34,10 +31,7 @@ natural_read low high d e most =
     let whole = whole_read (pos low) (pos high) d read.0 read.1 in natural_of_whole low high d read.0 whole.0 whole.1 whole.2 most
 
 pub natural_is_in : (low high : ℕ) (d : Data) (n : ℕ) → high ≤ 18446744073709551615 → whole_from (pos low) (pos high) d ≡ Ok tt → as_natural d ≡ Some n → (low ≤ n) × (n ≤ high)
-natural_is_in low high d n most e is =
-    let (m, read, above, below, there) = natural_read low high d e most in
-    let same = same_Some m n (sym read ∙ is) in
-    (subst (λ x. low ≤ x) same (leb-true low m above), subst (λ x. x ≤ high) same (leb-true m high below))
+natural_is_in low high d n most e is = grind (arith, nat_tests, natural_read low high d e most, is)
 
 pub needed_natural : (k : Known) (place : Place) (name : List ℕ) (low high : ℕ) (ms : Members) → HasRow place name Needed (Whole (pos low) (pos high)) → RowsSound k place ms
     → high ≤ 18446744073709551615 → (n : ℕ) × (natural name ms ≡ Some n) × (nat_le low n ≡ true) × (nat_le n high ≡ true)

@@ -105,14 +105,7 @@ bits_told : (d : Data) → has_bits d ≡ false → HasNoBits d
 bits_told d = by_element (λ x. has_bits x ≡ false → HasNoBits x) step d
   where
     step : (d : Data) → ((ms : Members) (x : Data) → d ≡ object ms → get_member (codes "element-field-type") ms ≡ Some x → has_bits x ≡ false → HasNoBits x) → has_bits d ≡ false → HasNoBits d
-    step (object ms) inner e =
-        let p = or_parts (not (option_map_or is_static_array (class_of ms) false)) _ e in
-        let class = class_told is_static_array places.StaticArray only_static (class_of ms) (let is : option_map_or is_static_array (class_of ms) false ≡ true = grind (arith, nat_tests) in is) in
-        elim (and_cases (not (is_number (natural_in (codes "length") ms) 0)) (element_has_bits ms) p.1) [
-          | inl empty ↦ HasNoBits.an_empty_array ms class ((has_number (codes "length") ms 0).0 (let none : is_number (natural_in (codes "length") ms) 0 ≡ true = grind (arith, nat_tests) in none))
-          | inr none ↦ by_found (λ (o : Option Data). option_map_or has_bits o true ≡ false → HasNoBits (object ms)) (get_member (codes "element-field-type") ms) (λ absent e. absurd cc)
-              (λ x there e. HasNoBits.an_array_of_such ms x class there (inner ms x refl there e)) (sym (element_bits ms) ∙ none)
-        ]
+    step (object ms) inner e = grind (arith, nat_tests, class_told is_static_array places.StaticArray only_static (class_of ms), has_number (codes "length") ms 0, element_bits ms, inner ms, e, HasNoBits.an_empty_array ms, HasNoBits.an_array_of_such ms)
     step _ inner e = absurd cc
 
 no_bits_found : (d : Data) → HasNoBits d → has_bits d ≡ false

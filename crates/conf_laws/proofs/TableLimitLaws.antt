@@ -104,12 +104,7 @@ long_fails most d = grind (arith, nat_tests)
 
 power_fails : (high : ℕ) (d : Data) → (power_fits high d ≡ false) ↔ IsNoPowerUpTo high d
 unfolding power_fits
-power_fails high d = (
-  by_found (λ (o : Option ℕ). divides high o ≡ false → IsNoPowerUpTo high d) (as_natural d) (λ is f. absurd cc) (λ n is f.
-      let parts = or_parts (nat_eq n 0) (high % n == 0) f in
-      (n, is, eqb-false n 0 parts.0, λ q product. eqb-false (high % n) 0 parts.1 (ap (λ h. h % n) (sym product) ∙ mul-mod_right n q))),
-  λ (n, is, some, none). ap (divides high) is ∙ or_from (nat_eq n 0) (high % n == 0) (ne_eqb n 0 some) (ne_eqb (high % n) 0 (λ e. none (high / n) (omega (arith, some, e)))),
-)
+power_fails high d = grind (arith, nat_tests, mul-mod_right)
 
 module _ (place : Place) (d : Data) where
   entries_told : at_most (entries_of place) (count_of d) ≡ false → PassesAt place d

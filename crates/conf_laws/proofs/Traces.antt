@@ -193,9 +193,7 @@ small d n judged is = let b = (natural_is_in 0 highest d n (omega arith) judged 
 
 level_small : (levels : Members) (d : Data) (n : ℕ) → level levels (pos highest) d ≡ Ok tt → level_of levels (Some d) ≡ Some n → n < 2 ^ 63
 unfolding level
-level_small levels (string name) n judged is =
-    by_found (λ (o : Option Data). option_map_or (whole_from (pos 0) (pos highest)) o (Err (here NoSuchAlias)) ≡ Ok tt → option_and_then as_natural o ≡ Some n → n < 2 ^ 63) (get_member name levels) (λ none j e. absurd cc) (λ d there j e. small d n j e) judged is
-level_small levels d n judged is = small d n judged is
+level_small levels d n judged is = grind (arith, small, judged, is)
 
 -- the rules allow an event record type, where its records have bits
 abbrev IsGoodEvent : EventType → Type 0

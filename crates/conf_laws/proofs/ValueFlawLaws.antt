@@ -260,12 +260,9 @@ module _ (around : Around) where
   inside_excluded : (d : Data) (flaw : Flaw) (x y : ℤ) → IsRead d x y → ¬ IsOutside x y → ¬ IsNoRange around d flaw
   inside_excluded d flaw x y (IsRange.one_number z one, end, last) inside (IsNoRange.wrong_number list wrong) = whole_excluded lowest_end highest_end d z flaw one end wrong
   inside_excluded d flaw x y (IsRange.two_numbers a b z w pair first second, end, last) inside (IsNoRange.wrong_number list wrong) = some_none (as_array d) (item a (item b no_items)) pair list
-  inside_excluded d flaw x y (IsRange.one_number z one, end, last) inside (IsNoRange.no_pair ds is other) = list_no_number d ds z is one
-  inside_excluded d flaw x y (IsRange.two_numbers a b z w pair first second, end, last) inside (IsNoRange.no_pair ds is other) = other (ap items_len (some_same (as_array d) ds (item a (item b no_items)) is pair))
-  inside_excluded d flaw x y (IsRange.one_number z one, end, last) inside (IsNoRange.wrong_low a b f pair wrong) = list_no_number d (item a (item b no_items)) z pair one
-  inside_excluded d flaw x y (IsRange.two_numbers a b z w pair first second, end, last) inside (IsNoRange.wrong_low c e f other wrong) = whole_excluded lowest_end highest_end c z f (subst (λ v. IsWhole v z) (firsts d a b c e pair other).0 first) end wrong
-  inside_excluded d flaw x y (IsRange.one_number z one, end, last) inside (IsNoRange.wrong_high a b f pair wrong) = list_no_number d (item a (item b no_items)) z pair one
-  inside_excluded d flaw x y (IsRange.two_numbers a b z w pair first second, end, last) inside (IsNoRange.wrong_high c e f other wrong) = whole_excluded lowest_end highest_end e w f (subst (λ v. IsWhole v w) (firsts d a b c e pair other).1 second) last wrong
+  inside_excluded d flaw x y (read, end, last) inside (IsNoRange.no_pair ds is other) = grind (arith, list_no_number d, read, is, other)
+  inside_excluded d flaw x y (read, end, last) inside (IsNoRange.wrong_low a b f pair wrong) = grind (arith, list_no_number d, whole_excluded lowest_end highest_end a, read, end, pair, wrong)
+  inside_excluded d flaw x y (read, end, last) inside (IsNoRange.wrong_high a b f pair wrong) = grind (arith, list_no_number d, whole_excluded lowest_end highest_end b, read, last, pair, wrong)
   inside_excluded d flaw x y (read, end, last) inside (IsNoRange.low_above_high low high is less) = let same = range_same d x y low high read is in inside (inl (subst (λ z. y <ℤ z) (sym same.0) (subst (λ z. z <ℤ low) (sym same.1) less)))
   inside_excluded d flaw x y (read, end, last) inside (IsNoRange.below_the_integer low high signed n is bits less) = inside (inr (inl (signed, n, bits, subst (λ z. z <ℤ lowest signed n) (sym (range_same d x y low high read is).0) less)))
   inside_excluded d flaw x y (read, end, last) inside (IsNoRange.above_the_integer low high signed n is bits more) = inside (inr (inr (signed, n, bits, subst (λ z. highest signed n <ℤ z) (sym (range_same d x y low high read is).1) more)))
