@@ -28,9 +28,6 @@ nothing_agrees = record { levels = refl; second = (λ e. false≢true e, λ h. a
 
 -- ---- a data stream type that says that it is the default
 
-true_there : (o : Option Data) → is_true o ≡ true → o ≡ Some (boolean true)
-true_there o e = grind (arith, e)
-
 says_told : (d : Data) → says_default d ≡ true → SaysDefault d
 says_told d e = grind (arith, e)
 
@@ -78,15 +75,9 @@ each_taken (n ∷ names) taken name = joined (each_taken names (take n taken) na
 
 -- ---- dynamic arrays
 
-type_told : (o : Option Data) → option_and_then class_of (option_and_then as_object o) ≡ Some places.DynamicArray → (type : Members) × (o ≡ Some (object type)) × (class_of type ≡ Some places.DynamicArray)
-type_told o e = grind (arith, e)
-
-member_told : (d : Data) → class_of_member d ≡ Some places.DynamicArray → IsDynamic d
-member_told d e = grind (arith, e)
-
 pub dynamic_told : (d : Data) → is_dynamic d ≡ true → IsDynamic d
 unfolding is_dynamic
-dynamic_told d e = member_told d (class_told is_dynamic_array places.DynamicArray only_dynamic (class_of_member d) e)
+dynamic_told d e = grind (arith, only_dynamic, e)
 
 pub told_dynamic : (d : Data) → IsDynamic d → is_dynamic d ≡ true
 unfolding is_dynamic

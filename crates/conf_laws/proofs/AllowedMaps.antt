@@ -150,19 +150,12 @@ mappings_good k labels h within =
 
 -- ---- the numbers of the integer
 
-numbers_said : (signed : Bool) (o : Option ℕ) (size : ℕ) → unwrap_or o 0 ≡ size → 0 < size → option_map_or (numbers_of signed) o all_numbers ≡ numbers_of signed size
-numbers_said signed o size is some = grind (arith, is, some)
-
 abbrev AreNumbersOf : Known → IntType → Type 0
 AreNumbersOf k t = (k.numbers.low ≡ lowest t.signed t.size) × (k.numbers.high ≡ highest t.signed t.size)
 
 numbers_are : (k : Known) (signed : Bool) (ms : Members) (t : IntType) → k.numbers ≡ numbers_in signed ms → IsMade (size_of ms) (align_of ms) signed t → AreNumbersOf k t
 unfolding size_of numbers_in
-numbers_are k signed ms t known says =
-    let size : unwrap_or (natural_in (codes "size") ms) 0 ≡ t.size = ap (λ o. unwrap_or o 0) (sym (same_natural (codes "size") ms)) ∙ sym says.size_is in
-    let said = known ∙ numbers_said signed (natural_in (codes "size") ms) t.size size t.not_empty in
-    let ends = some_size signed t.size t.not_empty t.at_most_64 in
-    (ap (λ s. s.low) said ∙ ends.0 ∙ ap (λ s. lowest s t.size) (sym says.sign_is), ap (λ s. s.high) said ∙ ends.1 ∙ ap (λ s. highest s t.size) (sym says.sign_is))
+numbers_are k signed ms t known says = grind (arith, same_natural (codes "size") ms, some_size signed t.size t.not_empty t.at_most_64, t.not_empty, known, says)
 
 -- a range inside the numbers of an integer of this size and sign
 range_in : (k : Known) (t : IntType) (m : Mapping) → AreNumbersOf k t → IsGoodMapping k m → IsRangeOf t m

@@ -5,9 +5,6 @@ use Rattle.conf_laws.proofs.Readings.{optional_found}
 use Rattle.conf_laws.proofs.Sound.{HasRow, RowsSound, needed_sound}
 use Rattle.conf_laws.proofs.Words.{IsWhole, IsRange, Place, Whole, Needed, is_null, itself_of, Known, leaf_of, whole_from, is_power_of_two, divides, numbers_of, end_of, pair_of, single_of, range_of, is_number, index, whole_of, whole_or_not, wanted, at, wanted_found, both_read, read_there, ok_same, as_natural, natural_or_none, integer_or_none, Data, Num, Members, array, Items, no_items, item, as_integer, as_number, nat_tests, false≢true, and_parts, same_Some, is_alignment, alignment_of, alignment, natural, lowest, highest, integer_align, default_align, size_of, align_of}
 
-pub whole_there : (low high : ℤ) (found : Option ℤ) (z : ℤ) → whole_or_not low high found ≡ Ok z → (found ≡ Some z) × (int_le low z ≡ true) × (int_le z high ≡ true)
-whole_there low high found z e = grind (arith, nat_tests, e)
-
 -- a whole number that was read, and that it is between its bounds
 pub whole_read : (low high : ℤ) (d : Data) (z : ℤ) → whole_of low high d ≡ Ok z → IsWhole d z × (int_le low z ≡ true) × (int_le z high ≡ true)
 unfolding whole_of
@@ -16,9 +13,6 @@ whole_read low high d z e = grind (arith, nat_tests, e)
 -- the value is a whole number from low to high, a natural number
 abbrev NaturalIn : ℕ → ℕ → Data → Type 0
 NaturalIn low high d = (n : ℕ) × (as_natural d ≡ Some n) × (nat_le low n ≡ true) × (nat_le n high ≡ true) × (is_null d ≡ false)
-
-number_there : (d : Data) (m : Num) → as_number d ≡ Some m → is_null d ≡ false
-number_there d m e = grind (arith, e)
 
 natural_of_whole : (low high : ℕ) (d : Data) (z : ℤ) → IsWhole d z → int_le (pos low) z ≡ true → int_le z (pos high) ≡ true → high ≤ 18446744073709551615 → NaturalIn low high d
 unfolding as_natural
@@ -95,10 +89,7 @@ alignment_or name otherwise ms default = grind (arith, default)
 module _ (ms : Members) (n : ℕ) (power : is_power_of_two (pos n) ≡ true) (fits : divides 4096 (Some n) ≡ true) where
   kept : (name : List ℕ) → natural name ms ≡ Some n → alignment name ms ≡ Some n
   unfolding alignment
-  kept name is =
-      let some = (and_parts (nat_lt 0 n) _ power).0 in
-      let divisor : (4096 % n == 0) ≡ true = grind (arith, nat_tests, some, fits) in
-      ap (option_and_then alignment_of) is ∙ rw (some, divisor) refl
+  kept name is = grind (arith, nat_tests, power, fits, is)
 
   pub integer_kept : natural (codes "alignment") ms ≡ Some n → integer_align ms ≡ n
   unfolding integer_align

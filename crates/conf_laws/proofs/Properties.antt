@@ -92,8 +92,7 @@ unfolding fits place_fits
 fitting_parts place d e = grind (arith, nat_tests, e)
 
 none_fit : (o : Option Entries) → at_most o 0 ≡ true
-none_fit o =
-    by_found (λ (most : Option ℕ). option_map_or (nat_le 0) most true ≡ true) (option_and_then (λ (e : Entries). e.most) o) (λ is. refl) (λ n is. le-leb 0 n (omega arith))
+none_fit o = grind (arith, nat_tests)
 
 object_or_none : (place : Place) (d : Data) → IsObject place → IsWithin (At place) d → AreWithin place (unwrap_or (as_object d) no_members) × (at_most (entries_of place) (members_len (unwrap_or (as_object d) no_members)) ≡ true)
 object_or_none place (object ms) own h = (object_within place place ms (own nothing (object ms) ms).1 h, (fitting_parts place (object ms) h.fitting).1)

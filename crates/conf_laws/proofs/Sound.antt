@@ -27,11 +27,7 @@ pub record ObjectSound (k : Known) (place : Place) (ms : Members) : Type 0 where
   pub shape : shape_of place ms ≡ Ok tt
 
 pub object_sound : (k : Known) (place : Place) (ms : Members) → inner_flaws k (At place) (object ms) ≡ [] → ObjectSound k place ms
-object_sound k place ms e =
-    let one = both_none (told_by (class_rule place ms)) _ e in
-    let two = both_none (told_by (all_there (place_of_properties place ms) ms)) _ one.1 in
-    let three = both_none (member_flaws (inside (place_of_properties place ms) ms k) (place_of_properties place ms) ms) (told_by (shape_of place ms)) two.1 in
-    record { class_fits = told_none _ one.0; there = told_none _ two.0; members = three.0; shape = told_none _ three.1 }
+object_sound k place ms e = grind (arith, both_none, told_none, e)
 
 -- ---- a property
 
@@ -40,7 +36,7 @@ pub record ContentSound (k : Known) (content : Content) (d : Data) : Type 0 wher
   pub inner : inner_flaws k content d ≡ []
 
 pub content_sound : (k : Known) (content : Content) (d : Data) → told_by (itself_of k content d) ++ inner_flaws k content d ≡ [] → ContentSound k content d
-content_sound k content d e = let both = both_none (told_by (itself_of k content d)) _ e in record { itself = told_none _ both.0; inner = both.1 }
+content_sound k content d e = grind (arith, both_none, told_none, e)
 
 pub record PropertySound (k : Known) (place : Place) (name : List ℕ) (content : Content) (d : Data) : Type 0 where
   pub value : ContentSound k content d
@@ -51,13 +47,7 @@ abbrev pub flaws_at : Known → Place → List ℕ → Data → List Flaw
 flaws_at k place name d = property_flaws k place name (resolved_content place name) d (inner_flaws k (unwrap_or (resolved_content place name) contents.Anything) d)
 
 pub property_here : (k : Known) (place : Place) (name : List ℕ) (content : Content) (d : Data) → resolved_content place name ≡ Some content → is_left_out place name d ≡ false → flaws_at k place name d ≡ [] → PropertySound k place name content d
-property_here k place name content d is there e =
-    let flaws : told_by (itself_of k content d) ++ (told_by (key_of k place name d) ++ inner_flaws k content d) ≡ [] =
-    subst (λ b. cond b [] (told_by (itself_of k content d) ++ (told_by (key_of k place name d) ++ inner_flaws k content d)) ≡ []) there
-    (subst (λ o. property_flaws k place name o d (inner_flaws k (unwrap_or o contents.Anything) d) ≡ []) is e) in
-    let one = both_none (told_by (itself_of k content d)) _ flaws in
-    let two = both_none (told_by (key_of k place name d)) _ one.1 in
-    record { value = record { itself = told_none _ one.0; inner = two.1 }; named = told_none _ two.0 }
+property_here k place name content d is there e = grind (arith, both_none, told_none, is, there, e)
 
 -- the first property, and those behind it
 pub first_flaws : (k : Known) (place : Place) (name : List ℕ) (d : Data) (ms : Members) → member_flaws k place (member name d ms) ≡ [] → (flaws_at k place name d ≡ []) × (member_flaws (behind place d k) place ms ≡ [])
@@ -168,9 +158,6 @@ first_entry k place name content d ms map e =
     let resolved : resolved_content place name ≡ Some content = rw (no_rows place (codes "$inherit") map.0 map.1, and-false (bytes_eq name (codes "$inherit"))) (map_leads place name content map) in
     (property_here k place name content d resolved (ap (λ o. left_out o d) (no_rows place name map.0 map.1)) both.0, both.1)
 
-admitted_class : (place : Place) (o : Option Place) → admitted place o ≡ Ok tt → (class : Place) × (o ≡ Some class) × (admits_class place class ≡ true)
-admitted_class place o e = grind (arith, e)
-
 -- the class that a field type has where it stands
 has_class : (place : Place) (ms : Members) → is_position place ≡ true → class_rule place ms ≡ Ok tt → (class : Place) × (class_of ms ≡ Some class) × (admits_class place class ≡ true)
 unfolding class_rule class_of
@@ -188,8 +175,7 @@ pub record TypeSound (k : Known) (place : Place) (ms : Members) : Type 0 where
 -- the rows of a field type are those of its class
 pub class_place : (place : Place) (ms : Members) (class : Place) → is_position place ≡ true → class_of ms ≡ Some class → place_of_properties place ms ≡ class
 unfolding place_of_properties
-class_place place ms class position is =
-    ap (λ b. cond b (unwrap_or (class_of ms) places.Ignored) (own_place place)) position ∙ ap (λ o. unwrap_or o places.Ignored) is
+class_place place ms class position is = grind (arith, position, is)
 
 pub type_sound : (k : Known) (place : Place) (ms : Members) → is_position place ≡ true → ObjectSound k place ms → TypeSound k place ms
 type_sound k place ms position h =

@@ -77,10 +77,7 @@ module _ (ms : Members) where
 
   missing_told : (place : Place) (flaw : Flaw) → all_there place ms ≡ Err flaw → HasNotItsRows place ms flaw
   unfolding all_there
-  missing_told place flaw e = elim (refused_here_or_next (rows_there ms (rows_of place)) _ flaw e) [
-    | inl rows ↦ let (row, among, needed, none, same) = row_refused (rows_of place) flaw rows in subst (HasNotItsRows place ms) (sym same) (HasNotItsRows.missing row among needed none)
-    | inr (x, went, orders) ↦ order_told place flaw orders
-  ]
+  missing_told place flaw e = grind (arith, refused_here_or_next (rows_there ms (rows_of place)) (λ _. orders_there place ms) flaw e, row_refused (rows_of place) flaw, order_told place flaw, HasNotItsRows.missing)
 
 -- ---- what a field type is as a whole
 
@@ -129,12 +126,11 @@ shape_judged _ ms = λ flaw wrong. elim wrong as (λ f w. ⊥) [ IsNoShapeAt.no_
 -- ---- what readings tell
 
 pub refused_all : (P : Flaw → Type 0) (r : Result ⊤ Flaw) → ((flaw : Flaw) → r ≡ Err flaw → P flaw) → All P (told_by r)
-refused_all P (Ok x) told = All-nil P
-refused_all P (Err flaw) told = All-cons P flaw [] (told flaw refl) (All-nil P)
+refused_all P r told = grind (arith, All-nil, All-cons, told)
 
 -- what a reading refuses is one of these, where it is one of those
 told : (P Q : Flaw → Type 0) (r : Result ⊤ Flaw) → IsJudged r P → ((flaw : Flaw) → P flaw → Q flaw) → All Q (told_by r)
-told P Q r h to = refused_all Q r (λ flaw e. to flaw (subst (λ x. IsJudged x P) e h))
+told P Q r h to = grind (arith, All-nil, All-cons, h, to)
 
 -- a reading that refuses nothing leaves none
 clear : (P : Flaw → Type 0) (r : Result ⊤ Flaw) (flaw : Flaw) → IsJudged r P → r ≡ Ok tt → ¬ P flaw

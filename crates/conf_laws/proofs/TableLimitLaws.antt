@@ -33,9 +33,7 @@ single : (levels : ℕ) (d : Data) → ((ms : Members) (n : ℕ) → d ≡ objec
 single levels d none = record { nest = ([], Nest.none d, refl); some = omega arith; most = most; few = λ ms element is has. omega arith }
   where
     most : (e : Data) (ns : List ℕ) → Nest e ns → e ≡ d → (product ns ≤ 1) × (length ns ≤ levels)
-    most e ns (Nest.none x) same = (omega arith, omega arith)
-    most e ns (Nest.innermost ms n is) same = absurd (none ms n (sym same) is)
-    most e ns (Nest.around_others ms n element rest is has nest) same = absurd (none ms n (sym same) is)
+    most e ns nest same = grind (arith, none, nest, same)
 
 no_array : (ms ns : Members) (n : ℕ) → option_map_or is_static_array (class_of ms) false ≡ false → object ms ≡ object ns → ¬ IsArray ns n
 no_array ms ns n fails same is = let members : ms ≡ ns = cc in true≢false (sym (ap (λ o. option_map_or is_static_array o false) is.0) ∙ ap (λ x. option_map_or is_static_array (class_of x) false) (sym members) ∙ fails)
@@ -159,8 +157,7 @@ label_fails place name = grind (arith, nat_tests, label_is)
 
 -- what fails a test is a limit that is passed
 limited : (P : Flaw → Type 0) (b : Bool) → (b ≡ false → P (here Limit)) → All P (told_by (within_limit b))
-limited P true fails = All-nil P
-limited P false fails = All-cons P (here Limit) [] (fails refl) (All-nil P)
+limited P b fails = grind (arith, All-nil, All-cons, fails)
 
 value_told : (content : Content) (d : Data) → All (PassesLimitOf content d) (inner_limits content d) → All (PassesLimitOf content d) (content_limits content d)
 value_told content d held = All-append (PassesLimitOf content d) (told_by (within_limit (fits content d))) _ (limited (PassesLimitOf content d) (fits content d) (λ fails. PassesLimitOf.too_large ((by_fails content d).0 fails))) held

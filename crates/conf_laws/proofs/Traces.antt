@@ -22,7 +22,7 @@ unsigned_says k place ms t is = integer_says (inside t.class ms k) places.Unsign
 
 size_is : (ms : Members) (t : IntType) (n : ℕ) → IsMade (size_of ms) (align_of ms) false t → is_number (natural_in (codes "size") ms) n ≡ true → t.size ≡ n
 unfolding size_of
-size_is ms t n made is = made.size_is ∙ ap (λ o. unwrap_or o 0) (same_natural (codes "size") ms ∙ number_told (natural_in (codes "size") ms) n is)
+size_is ms t n made is = grind (arith, same_natural (codes "size") ms, number_told, made, is)
 
 -- ---- the type that a feature has: the one that it says itself, or its default
 

@@ -60,11 +60,7 @@ unfolding whole_from
 whole_judged low high d = then_judged (IsNoWhole low high d) (whole_of low high d) _ (whole_refused low high d) (λ z went flaw. let (whole, least, most) = whole_read low high d z went in whole_excluded low high d z flaw whole (least, most))
 
 a_power : (z : ℤ) → is_power_of_two z ≡ true → IsPowerOfTwo z
-a_power (pos n) e =
-    let b = and_parts (nat_lt 0 n) (9223372036854775808 % n == 0) e in
-    let power = divisors_of_pow 63 n (ltb-true 0 n b.0) (eqb-true (9223372036854775808 % n) 0 b.1) in
-    (power.0, ap pos power.2)
-a_power (negsuc n) e = absurd cc
+a_power z e = grind (arith, nat_tests, divisors_of_pow 63, e)
 
 no_power : (z : ℤ) → int_le z (pos 18446744073709551615) ≡ true → is_power_of_two z ≡ false → ¬ IsPowerOfTwo z
 no_power z most e (k, is) =
@@ -130,8 +126,7 @@ default_judged k around h d = grind (arith, nat_tests, some_flag d, h.second, Is
 -- no character of a text that is shown is one of control
 shown_character : (s : List ℕ) (c : ℕ) → is_printable s ≡ true → Contains s c → ¬ IsControl c
 shown_character s c e (k, among, is) control =
-    let small : nat_le 32 c ≡ false = lt-leb 32 c control.0 in
-    let tested : (nat_le 32 c || nat_eq c 10 || nat_eq c 9) ≡ false = or_from (nat_le 32 c || nat_eq c 10) (nat_eq c 9) (or_from (nat_le 32 c) (nat_eq c 10) small (ne_eqb c 10 control.1)) (ne_eqb c 9 control.2) in
+    let tested : (nat_le 32 c || nat_eq c 10 || nat_eq c 9) ≡ false = grind (arith, nat_tests, control) in
     true≢false (sym e ∙ list_all_at (λ x. nat_le 32 x || nat_eq x 10 || nat_eq x 9) s k c among (ap (λ x. nat_le 32 x || nat_eq x 10 || nat_eq x 9) is ∙ tested))
 
 printable_judged : (d : Data) → IsJudged (text_of d >>= (λ s. only_if (is_printable s))) (IsNoConfigText d)
@@ -168,26 +163,16 @@ word_judged : (words : List (List ℕ)) (test : List ℕ → Bool) (d : Data) �
 word_judged words test d same =
     text_judged (IsNoWordOf words d) test d IsNoWordOf.no_text (λ s is fails. IsNoWordOf.another_word s is (λ among. false≢true (sym fails ∙ (same s).1 among))) (λ s is holds flaw. word_excluded words d s flaw is ((same s).0 holds))
 
-no_class_word : (cs : List ClassWord) (w : List ℕ) → Contains (map (λ x. x.word) cs) w → is_some (class_in w cs) ≡ true
-no_class_word [] w (k, among, is) = absurd (omega (arith, among))
-no_class_word (c ∷ cs) w (zero, among, same) = let is = (bytes_eq-Decides c.word w).1 same in rw is refl
-no_class_word (c ∷ cs) w (suc k, among, same) = by_test (λ (b : Bool). is_some (cond b (Some c.place) (class_in w cs)) ≡ true) (bytes_eq c.word w) (λ is. refl) (λ is. no_class_word cs w (k, omega (arith, among), same))
-
-class_word_listed : (cs : List ClassWord) (w : List ℕ) → is_some (class_in w cs) ≡ true → Contains (map (λ c. c.word) cs) w
-class_word_listed [] w e = absurd cc
-class_word_listed (c ∷ cs) w e =
-    by_test (λ (b : Bool). is_some (cond b (Some c.place) (class_in w cs)) ≡ true → (is_some (class_in w cs) ≡ true → Contains (map (λ x. x.word) cs) w) → Contains (map (λ x. x.word) (c ∷ cs)) w) (bytes_eq c.word w)
-    (λ is f later. (0, omega arith, (bytes_eq-Decides c.word w).0 is)) (λ is f later. let there = later f in (suc there.0, omega (arith, there.1), there.2)) e (class_word_listed cs w)
+class_by_bytes : (cs : List ClassWord) (w : List ℕ) → is_some (class_in w cs) ≡ list_any (bytes_eq w) (map (λ c. c.word) cs)
+class_by_bytes [] w = refl
+class_by_bytes (c ∷ cs) w = grind (arith, nat_tests, bytes_eq-Decides c.word w, bytes_eq-Decides w c.word, class_by_bytes cs w)
 
 pub class_word : (s : List ℕ) → IsTrue (is_some (class_in s class_words)) ↔ Contains words_of_classes s
-class_word s = (class_word_listed class_words s, no_class_word class_words s)
+class_word s = let same = class_by_bytes class_words s in (λ e. listed words_of_classes s (sym same ∙ e), λ among. same ∙ has_by_bytes words_of_classes s among)
 
 whole_or_text_judged : (low high : ℤ) (d : Data) → IsJudged (whole_or_text low high d) (IsNoWholeOrText low high d)
 unfolding whole_or_text
 whole_or_text_judged low high d = grind (arith, printable_judged d, whole_judged low high d, IsNoWholeOrText.no_number, IsNoWholeOrText.has_control)
-
-alias_is : (levels : Members) (high : ℤ) (s : List ℕ) (a : Data) (flaw : Flaw) → get_member s levels ≡ Some a → IsNoLevel levels high (string s) flaw → IsNoWhole (pos 0) high a flaw
-alias_is levels high s a flaw there wrong = grind (arith, there, wrong)
 
 level_judged : (levels : Members) (high : ℤ) (d : Data) → IsJudged (level levels high d) (IsNoLevel levels high d)
 unfolding level
@@ -204,7 +189,7 @@ pub number_found : (name : List ℕ) (ms : Members) (n : ℕ) → HasNumber name
 unfolding natural_in
 number_found name ms n (d, there, is) = ap (option_and_then as_natural) there ∙ is
 
-list_no_number : {P : Type 0} (d : Data) (ds : Items) (z : ℤ) → as_array d ≡ Some ds → IsWhole d z → P
+list_no_number : (d : Data) (ds : Items) (z : ℤ) → as_array d ≡ Some ds → ¬ IsWhole d z
 list_no_number d ds z is whole = grind (arith, is, whole)
 
 firsts : (d a b c e : Data) → IsPair d a b → IsPair d c e → (a ≡ c) × (b ≡ e)
@@ -260,9 +245,12 @@ module _ (around : Around) where
   inside_excluded : (d : Data) (flaw : Flaw) (x y : ℤ) → IsRead d x y → ¬ IsOutside x y → ¬ IsNoRange around d flaw
   inside_excluded d flaw x y (IsRange.one_number z one, end, last) inside (IsNoRange.wrong_number list wrong) = whole_excluded lowest_end highest_end d z flaw one end wrong
   inside_excluded d flaw x y (IsRange.two_numbers a b z w pair first second, end, last) inside (IsNoRange.wrong_number list wrong) = some_none (as_array d) (item a (item b no_items)) pair list
-  inside_excluded d flaw x y (read, end, last) inside (IsNoRange.no_pair ds is other) = grind (arith, list_no_number d, read, is, other)
-  inside_excluded d flaw x y (read, end, last) inside (IsNoRange.wrong_low a b f pair wrong) = grind (arith, list_no_number d, whole_excluded lowest_end highest_end a, read, end, pair, wrong)
-  inside_excluded d flaw x y (read, end, last) inside (IsNoRange.wrong_high a b f pair wrong) = grind (arith, list_no_number d, whole_excluded lowest_end highest_end b, read, last, pair, wrong)
+  inside_excluded d flaw x y (IsRange.one_number z one, end, last) inside (IsNoRange.no_pair ds is other) = list_no_number d ds z is one
+  inside_excluded d flaw x y (IsRange.two_numbers a b z w pair first second, end, last) inside (IsNoRange.no_pair ds is other) = other (ap items_len (some_same (as_array d) ds (item a (item b no_items)) is pair))
+  inside_excluded d flaw x y (IsRange.one_number z one, end, last) inside (IsNoRange.wrong_low a b f pair wrong) = list_no_number d (item a (item b no_items)) z pair one
+  inside_excluded d flaw x y (IsRange.two_numbers a b z w pair first second, end, last) inside (IsNoRange.wrong_low c e f other wrong) = whole_excluded lowest_end highest_end c z f (subst (λ v. IsWhole v z) (firsts d a b c e pair other).0 first) end wrong
+  inside_excluded d flaw x y (IsRange.one_number z one, end, last) inside (IsNoRange.wrong_high a b f pair wrong) = list_no_number d (item a (item b no_items)) z pair one
+  inside_excluded d flaw x y (IsRange.two_numbers a b z w pair first second, end, last) inside (IsNoRange.wrong_high c e f other wrong) = whole_excluded lowest_end highest_end e w f (subst (λ v. IsWhole v w) (firsts d a b c e pair other).1 second) last wrong
   inside_excluded d flaw x y (read, end, last) inside (IsNoRange.low_above_high low high is less) = let same = range_same d x y low high read is in inside (inl (subst (λ z. y <ℤ z) (sym same.0) (subst (λ z. z <ℤ low) (sym same.1) less)))
   inside_excluded d flaw x y (read, end, last) inside (IsNoRange.below_the_integer low high signed n is bits less) = inside (inr (inl (signed, n, bits, subst (λ z. z <ℤ lowest signed n) (sym (range_same d x y low high read is).0) less)))
   inside_excluded d flaw x y (read, end, last) inside (IsNoRange.above_the_integer low high signed n is bits more) = inside (inr (inr (signed, n, bits, subst (λ z. highest signed n <ℤ z) (sym (range_same d x y low high read is).1) more)))
