@@ -34,7 +34,7 @@ module _ (ms : Members) (class : Place) (is : class_of ms ≡ Some class) (other
   alone t none leaf = record {
     leaf = leaf;
     bits = λ some. subst (λ (l : List ℕ). AllByRecursion (λ n. 0 < n) l) (sym none) tt;
-    nests = λ levels n e. record { deep = subst (λ (l : List ℕ). length l ≤ levels) (sym none) (omega arith); size = ap elements_of none ∙ counted_one levels n e; few = let one = counted_one levels n e in omega (arith, one) };
+    nests = λ levels n e. grind (arith, none, counted_one levels n e);
   }
 
 -- ---- static arrays
@@ -58,12 +58,9 @@ module _ (ms : Members) (static : option_map_or is_static_array (class_of ms) fa
       nests : (levels m : ℕ) → elements levels (object ms) ≡ Some m → Nests levels m (Static (chain_of inner) (length_of ms))
       nests zero m e = absurd (let none = rw static at e in cc)
       nests (suc levels) m e =
-          let count = at_least_one (natural_in (codes "length") ms) in
-          let (first, second, counted, within, product, most) = times_told count (elements levels value) m (sym (in_array levels count ms ∙ rw there refl) ∙ rw static at e) in
+          let (first, second, counted, within, product, most) = times_told (at_least_one (natural_in (codes "length") ms)) (elements levels value) m (grind (arith, static, there, in_array levels (at_least_one (natural_in (codes "length") ms)) ms, e)) in
           let inside = one.nests levels second within in
-          let deep = inside.deep in
-          let own : max 1 (length_of ms) ≡ first = ap (λ o. max 1 (unwrap_or o 0)) (same_natural (codes "length") ms) ∙ own_is (natural_in (codes "length") ms) first counted in
-          record { deep = omega (arith, deep); size = ap (λ x. x * elements_of (chain_of inner).lengths) own ∙ ap (λ x. first * x) inside.size ∙ sym product; few = most }
+          grind (arith, same_natural (codes "length") ms, own_is (natural_in (codes "length") ms) first counted, inside, product, most)
 
 -- ---- a field type by its class
 

@@ -8,7 +8,7 @@ use Rattle.conf_laws.proofs.Numbers.{alignment_or}
 use Rattle.conf_laws.proofs.Properties.{IsWithin, AreWithin, AreItemsWithin, object_within, property_within, optional_within, entry_within, is_within, first_item_limits, fitting_parts}
 use Rattle.conf_laws.proofs.Readings.{Says, proved_says, element_is, all_joined, under_no_test, optional_found, some_there, by_found, by_test}
 use Rattle.conf_laws.proofs.Sound.{HasRow, RowsSound, ContentSound, ObjectSound, object_sound, needed_sound, type_sound, class_place, object_at, content_sound, first_item, rows_sound, first_entry, optional_sound}
-use Rattle.conf_laws.proofs.Words.{nat_tests, chain_of, and_parts, is_alignment, rows_of, Presence, admits_class, is_dynamic_array, Place, At, entries_of, at_most, itself_of, form_of, Known, inside, is_position, inner_flaws, item_flaws, member_flaws, nothing, with_taken, take, is_taken, key_of, key_by, free_of, is_dynamic, class_of, class_of_member, elements, fits, arrays_fit, is_outermost, shape_of, with_names, names_beside, own_place, place_of_properties, item_content, Members, Data, object, get_member, optional, here, WrongKind, is_passed, members_len, items_len, both_read, plain_name_of, Items, no_items, item, no_members, member, array, as_array, as_object, eqb-true, false≢true, or_parts, All-push, All-nil, All-from_recursion, map-append, bytes_eq-Decides, IsDistinct, option_map_or, AllByRecursion, list_any, bytes_eq, field_type, element, object_at as object_named, list as list_in, member_type, member_said as member_of, behind_done, members_behind, made, align_for, listed, align_of, structure_of, structure, extra_members, names_in, own_names, IsPlainName, IsConfigMember, AreConfigMembers, IsConfigStruct, StructType, length_name, shown_members, Auto, AtMember, Plain, Dyn, MemberType}
+use Rattle.conf_laws.proofs.Words.{false_from_ne_true, nat_tests, chain_of, and_parts, is_alignment, rows_of, Presence, admits_class, is_dynamic_array, Place, At, entries_of, at_most, itself_of, form_of, Known, inside, is_position, inner_flaws, item_flaws, member_flaws, nothing, with_taken, take, is_taken, key_of, key_by, free_of, is_dynamic, class_of, class_of_member, elements, fits, arrays_fit, is_outermost, shape_of, with_names, names_beside, own_place, place_of_properties, item_content, Members, Data, object, get_member, optional, here, WrongKind, is_passed, members_len, items_len, both_read, plain_name_of, Items, no_items, item, no_members, member, array, as_array, as_object, eqb-true, false≢true, or_parts, All-push, All-nil, All-from_recursion, map-append, bytes_eq-Decides, IsDistinct, option_map_or, AllByRecursion, list_any, bytes_eq, field_type, element, object_at as object_named, list as list_in, member_type, member_said as member_of, behind_done, members_behind, made, align_for, listed, align_of, structure_of, structure, extra_members, names_in, own_names, IsPlainName, IsConfigMember, AreConfigMembers, IsConfigStruct, StructType, length_name, shown_members, Auto, AtMember, Plain, Dyn, MemberType}
 use Rattle.conf_laws.proofs.Words.places
 
 -- ---- what a member takes
@@ -91,11 +91,10 @@ names_by false name = name ∷ []
 
 -- a name that is free is free behind that of its length
 still_free : (taken : Members) (name : List ℕ) → is_taken taken name ≡ false → is_taken (take (length_name name) taken) name ≡ false
-still_free taken name free =
-    by_test (λ (b : Bool). b ≡ false) (is_taken (take (length_name name) taken) name) (λ is. elim ((taken_put name (length_name name) taken).0 is) [
-      | inl same ↦ absurd (let longer = ap length same in omega (arith, longer, length-append name (codes "_len")))
-      | inr there ↦ absurd (false≢true (sym free ∙ there))
-    ]) (λ is. refl)
+still_free taken name free = false_from_ne_true (is_taken (take (length_name name) taken) name) (λ is. elim ((taken_put name (length_name name) taken).0 is) [
+  | inl same ↦ let longer = ap length same in omega (arith, longer, length-append name (codes "_len"))
+  | inr there ↦ false≢true (sym free ∙ there)
+])
 
 member_shown : (before shown : List (List ℕ)) (taken : Members) (name : List ℕ) (b : Bool) → AreShown before shown taken → is_taken taken name ≡ false → (b && is_taken taken (length_name name)) ≡ false → AreShown before (shown ++ names_by b name) (with_member name b taken)
 member_shown before shown taken name false h free long = one_shown before shown taken name h free
@@ -182,7 +181,7 @@ told_says k x h =
 entry_shape : (d : Data) → form_of nothing places.Entry d ≡ Ok tt → (name : List ℕ) × (x : Data) × (d ≡ object (member name x no_members))
 unfolding form_of
 entry_shape (object (member name x no_members)) e = (name, x, refl)
-entry_shape (object (member name x (member other y ms))) e = absurd (let one = eqb-true (suc (suc (members_len ms))) 1 (is_passed (nat_eq (suc (suc (members_len ms))) 1) tt tt (here WrongKind) e).0 in omega (arith, one))
+entry_shape (object (member name x (member other y ms))) e = absurd (grind (arith, nat_tests, e))
 entry_shape _ e = absurd cc
 
 -- ---- the list

@@ -147,8 +147,7 @@ member_there all before rest name d (Parts.at_the_first) has = has
 member_there all before rest name d (Parts.behind b k e r parts) has = member_there all b (member k e r) name d parts (inr has)
 
 value_told : (k : Known) (around : Around) → Agrees k around → (content : Content) (d : Data) → All (IsFlawOf around content d) (inner_flaws k content d) → All (IsFlawOf around content d) (content_flaws k content d)
-value_told k around h content d held =
-    All-append (IsFlawOf around content d) (told_by (itself_of k content d)) _ (told (IsNoValueOf around content d) (IsFlawOf around content d) (itself_of k content d) (value_judged k around h content d) (λ f wrong. IsFlawOf.wrong_value wrong)) held
+value_told k around h content d held = All-append (IsFlawOf around content d) (told_by (itself_of k content d)) _ (told (IsNoValueOf around content d) (IsFlawOf around content d) (itself_of k content d) (value_judged k around h content d) (λ f wrong. IsFlawOf.wrong_value wrong)) held
 
 -- the flaws of a property, where those of what its value holds are such
 module _ (k : Known) (around : Around) (place : Place) (all before rest : Members) (name : List ℕ) (d : Data) (parts : Parts all before (member name d rest)) where

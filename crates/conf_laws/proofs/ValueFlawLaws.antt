@@ -74,11 +74,7 @@ no_power z most e (k, is) =
 
 power_judged : (d : Data) → IsJudged (power_of d) (IsNoPowerOfTwo d)
 unfolding power_of
-power_judged d =
-    then_judged (IsNoPowerOfTwo d) (whole_of (pos 1) (pos 18446744073709551615) d) _ (λ flaw r. IsNoPowerOfTwo.no_number (whole_refused (pos 1) (pos 18446744073709551615) d flaw r))
-    (λ z went.
-    let (one, least, most) = whole_read (pos 1) (pos 18446744073709551615) d z went in
-    test_judged (IsNoPowerOfTwo d) (is_power_of_two z) (here OutOfRange) (λ fails. IsNoPowerOfTwo.no_power one.0 z one.1 one.2 (no_power z most fails)) (λ holds flaw wrong. grind (arith, whole_excluded (pos 1) (pos 18446744073709551615) d z, a_power z, whole_same, one, least, most, holds, wrong)))
+power_judged d = then_judged (IsNoPowerOfTwo d) (whole_of (pos 1) (pos 18446744073709551615) d) _ (λ flaw r. IsNoPowerOfTwo.no_number (whole_refused (pos 1) (pos 18446744073709551615) d flaw r)) (λ z went. grind (arith, nat_tests, whole_read (pos 1) (pos 18446744073709551615) d z went, whole_excluded (pos 1) (pos 18446744073709551615) d z, a_power z, no_power z, whole_same, IsNoPowerOfTwo.no_power))
 
 -- ---- kinds
 
@@ -221,10 +217,7 @@ module _ (around : Around) where
   -- a number that a configuration can hold is outside of those of the enumeration where it is outside of its integer's
   module _ (numbers : _) (agrees : numbers ≡ unwrap_or (option_map (λ (e : Bool × Members). numbers_in e.0 e.1) (enumeration_around around)) all_numbers) (z : ℤ) where
     ends_of : (signed : Bool) (n : ℕ) → HasBits around signed n → (numbers.low ≡ lowest signed n) × (numbers.high ≡ highest signed n)
-    ends_of signed n bits =
-        let same = agrees ∙ numbers_there signed n bits in
-        let ends = some_size signed n bits.3 bits.4 in
-        (ap (λ s. s.low) same ∙ ends.0, ap (λ s. s.high) same ∙ ends.1)
+    ends_of signed n bits = grind (arith, agrees, numbers_there signed n bits, some_size signed n bits.3 bits.4)
 
     below : int_le lowest_end z ≡ true → (int_le numbers.low z ≡ false) ↔ ((signed : Bool) × (n : ℕ) × HasBits around signed n × (z <ℤ lowest signed n))
     below least = (
