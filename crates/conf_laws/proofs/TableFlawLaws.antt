@@ -112,9 +112,8 @@ no_bits_found d (HasNoBits.an_array_of_such ms element class there such) = grind
 shape_judged : (place : Place) (ms : Members) → IsJudged (shape_of place ms) (IsNoShapeAt place ms)
 unfolding shape_of
 shape_judged places.MagicFeature ms =
-    let size = has_number (codes "size") ms 32 in
-    test_judged (IsNoShapeAt places.MagicFeature ms) (is_number (natural_in (codes "size") ms) 32) (here OutOfRange) (λ fails. IsNoShapeAt.no_magic_number refl (λ has. false≢true (sym fails ∙ size.1 has)))
-    (λ holds flaw wrong. elim wrong as (λ f w. ⊥) [ IsNoShapeAt.no_magic_number is other ↦ other (size.0 holds) | IsNoShapeAt.no_identifier is other ↦ absurd cc | IsNoShapeAt.no_bits is such ↦ absurd cc ])
+    test_judged (IsNoShapeAt places.MagicFeature ms) (is_number (natural_in (codes "size") ms) 32) (here OutOfRange) (λ fails. IsNoShapeAt.no_magic_number refl (λ has. false≢true (sym fails ∙ (has_number (codes "size") ms 32).1 has)))
+    (λ holds flaw wrong. elim wrong as (λ f w. ⊥) [ IsNoShapeAt.no_magic_number is other ↦ other ((has_number (codes "size") ms 32).0 holds) | IsNoShapeAt.no_identifier is other ↦ absurd cc | IsNoShapeAt.no_bits is such ↦ absurd cc ])
 shape_judged places.IdentifierFeature ms =
     test_judged (IsNoShapeAt places.IdentifierFeature ms) (is_identifier ms) (here OutOfRange) (λ fails. IsNoShapeAt.no_identifier refl (λ is. false≢true (sym fails ∙ (identifier ms).1 is)))
     (λ holds flaw wrong. elim wrong as (λ f w. ⊥) [ IsNoShapeAt.no_magic_number is other ↦ absurd cc | IsNoShapeAt.no_identifier is other ↦ other ((identifier ms).0 holds) | IsNoShapeAt.no_bits is such ↦ absurd cc ])
@@ -244,11 +243,9 @@ none_of around content d flaw (IsFlawOf.wrong_value wrong) k h sound = clear (Is
 none_of around content d flaw (IsFlawOf.wrong_class {place = place} {ms = ms} wrong) k h sound = clear (IsNoClassAt place ms) (class_rule place ms) flaw (class_judged place ms) (object_sound k place ms sound.inner).class_fits wrong
 none_of around content d flaw (IsFlawOf.wrong_shape {place = place} {ms = ms} wrong) k h sound = clear (IsNoShapeAt place ms) (shape_of place ms) flaw (shape_judged place ms) (object_sound k place ms sound.inner).shape wrong
 none_of around content d flaw (IsFlawOf.wrong_rows {place = place} {ms = ms} (HasNotItsRows.missing row has needed none)) k h sound =
-    let there = row_kept ms (rows_of (place_of_properties place ms)) row (both_read (rows_there ms (rows_of (place_of_properties place ms))) _ tt (object_sound k place ms sound.inner).there).1 has in
-    absurd (let kept = rw (needed, none) at there in cc)
+    grind (arith, nat_tests, row_kept ms (rows_of (place_of_properties place ms)) row (both_read (rows_there ms (rows_of (place_of_properties place ms))) _ tt (object_sound k place ms sound.inner).there).1 has, needed, none)
 none_of around content d flaw (IsFlawOf.wrong_rows {place = place} {ms = ms} (HasNotItsRows.no_byte_order is a b)) k h sound =
-    let there = subst (λ p. orders_there p ms ≡ Ok tt) is (both_read (rows_there ms (rows_of (place_of_properties place ms))) _ tt (object_sound k place ms sound.inner).there).2 in
-    absurd (let kept = rw (a, b) at there in cc)
+    grind (arith, nat_tests, subst (λ p. orders_there p ms ≡ Ok tt) is (both_read (rows_there ms (rows_of (place_of_properties place ms))) _ tt (object_sound k place ms sound.inner).there).2, a, b)
 none_of around content d flaw (IsFlawOf.wrong_rows {place = place} {ms = ms} (HasNotItsRows.unknown name v has none)) k h sound =
     let (j, taken, empty) = named_at k around h place ms (object_sound k place ms sound.inner) name v has in
     let (c, is) = known_there j (place_of_properties place ms) name v empty in

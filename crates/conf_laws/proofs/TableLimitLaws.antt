@@ -47,9 +47,7 @@ module _ (ms : Members) (n : ℕ) (is_one : IsArray ms n) (some : 1 ≤ n) (leve
   alone none = record { nest = (n ∷ [], Nest.innermost ms n is_one, mul-one n); some = some; most = most; few = λ ns element same has. absurd (let members : ms ≡ ns = cc in cc) }
     where
       most : (e : Data) (ns : List ℕ) → Nest e ns → e ≡ object ms → (product ns ≤ n) × (length ns ≤ suc levels)
-      most e ns (Nest.none x) same = (some, omega arith)
-      most e ns (Nest.innermost os m is) same = (omega (arith, mul-one m, same_count os m is same), omega arith)
-      most e ns (Nest.around_others os m element rest is has nest) same = absurd (let members : os ≡ ms = cc in cc)
+      most e ns nest same = grind (arith, some, none, mul-one, same_count, nest, same)
 
   around : (element : Data) (k : ℕ) → HasElement ms element → Counted levels element k → n * k ≤ 1048576 → Counted (suc levels) (object ms) (n * k)
   around element k has inner fits = record { nest = (n ∷ inner.nest.0, Nest.around_others ms n element inner.nest.0 is_one has inner.nest.1, ap (λ x. n * x) inner.nest.2); some = one-le-mul some inner.some; most = most; few = λ ns e same there. fits }

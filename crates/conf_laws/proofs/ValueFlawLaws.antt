@@ -178,8 +178,7 @@ level_judged levels high d = grind (arith, whole_judged (pos 0) high, IsNoLevel.
 
 pub number_there : (name : List ℕ) (ms : Members) (n : ℕ) → natural_in name ms ≡ Some n → HasNumber name ms n
 unfolding natural_in
-number_there name ms n e =
-    by_found (λ (o : Option Data). option_and_then as_natural o ≡ Some n → HasNumber name ms n) (get_member name ms) (λ is f. absurd cc) (λ d is f. (d, is, f)) e
+number_there name ms n e = grind (arith, e)
 
 pub number_found : (name : List ℕ) (ms : Members) (n : ℕ) → HasNumber name ms n → natural_in name ms ≡ Some n
 unfolding natural_in
