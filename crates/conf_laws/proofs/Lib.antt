@@ -1,9 +1,7 @@
 pub mod Words
 pub mod Readings
 pub mod Sound
-pub mod Properties
 pub mod Numbers
-pub mod FieldTypes
 pub mod Structures
 pub mod Traces
 pub mod AllowedMaps
