@@ -55,10 +55,7 @@ is_known k low high = int_le low high && int_le k.numbers.low low && int_le high
 range_inside : (k : Known) (d : Data) → inside_of k.numbers d ≡ Ok tt → is_known k (low d) (high d) ≡ true
 unfolding inside_of is_inside
 range_inside k d e =
-    let read = both_read (range_of d) _ tt e in
-    let passed = is_passed (is_inside k.numbers read.0) tt tt (here OutOfRange) read.2 in
-    let ends = range_is d read.0.low read.0.high (range_read d read.0 read.1).0 in
-    subst (λ x. is_known k x (high d) ≡ true) ends.0 (subst (λ y. is_known k read.0.low y ≡ true) ends.1 passed.0)
+    let (range, read, passed) = both_read (range_of d) _ tt e in grind (arith, nat_tests, range_is d range.low range.high (range_read d range read).0, passed)
 
 -- a range inside these numbers, under a label that people read
 pub record IsGoodMapping (k : Known) (m : Mapping) : Type 0 where
@@ -246,9 +243,8 @@ description_allowed k ms s f h e =
 frequency_positive : (k : Known) (ms : Members) → member_flaws k places.ClockType ms ≡ [] → 0 < unwrap_or (natural (codes "frequency") ms) 1000000000
 unfolding itself_of leaf_of natural rows_of
 frequency_positive k ms f =
-    by_found (λ (o : Option Data). 0 < unwrap_or (option_and_then as_natural o) 1000000000) (optional (codes "frequency") ms)
-    (λ e. omega arith) (λ d is. by_found (λ (o : Option ℕ). 0 < unwrap_or o 1000000000) (as_natural d) (λ e. omega arith) (λ n e.
-    let b = (natural_is_in 1 18446744073709551615 d n (omega arith) (optional_sound k places.ClockType (codes "frequency") (Whole (pos 1) (pos 18446744073709551615)) ms d (refl, refl) f is).value.itself e).0 in omega (arith, b)))
+    by_found (λ (o : Option Data). 0 < unwrap_or (option_and_then as_natural o) 1000000000) (optional (codes "frequency") ms) (λ e. omega arith)
+    (λ d is. grind (arith, natural_is_in 1 18446744073709551615 d, (optional_sound k places.ClockType (codes "frequency") (Whole (pos 1) (pos 18446744073709551615)) ms d (refl, refl) f is).value.itself))
 
 -- ---- all of them
 

@@ -117,13 +117,7 @@ found_among : (name : List ℕ) (ms : Members) (rows : List Told) (row : Told) �
 found_among name ms [] row e f needed = absurd cc
 found_among name ms (r ∷ rows) row e f needed =
     let parts = both_read (row_there ms r) (λ _. rows_there ms rows) tt e in
-    by_test (λ (b : Bool). cond b (Some r) (row_in name rows) ≡ Some row → (d : Data) × (get_member name ms ≡ Some d)) (bytes_eq r.name name)
-    (λ is g.
-    let same : r ≡ row = cc in
-    let must = ap (λ x. is_needed x.presence) same ∙ needed in
-    subst (λ n. (d : Data) × (get_member n ms ≡ Some d)) ((bytes_eq-Decides r.name name).0 is)
-    (by_found (λ (o : Option Data). (d : Data) × (get_member r.name ms ≡ Some d)) (get_member r.name ms) (λ none. grind (arith, nat_tests, must, none, parts.1)) (λ d there. (d, there))))
-    (λ is g. found_among name ms rows row parts.2 g needed) f
+    by_found (λ (o : Option Data). get_member name ms ≡ o → (d : Data) × (get_member name ms ≡ Some d)) (get_member name ms) (λ none there. absurd (grind (arith, nat_tests, bytes_eq-Decides r.name name, found_among name ms rows row parts.2, parts.1, f, needed, none))) (λ d there same. (d, same)) refl
 
 pub needed_sound : (k : Known) (place : Place) (name : List ℕ) (content : Content) (ms : Members) → HasRow place name Needed content → RowsSound k place ms → (d : Data) × (get_member name ms ≡ Some d) × PropertySound k place name content d
 unfolding all_there is_left_out presence_under

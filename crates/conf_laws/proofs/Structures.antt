@@ -151,8 +151,7 @@ abbrev with_member : List ℕ → Bool → Members → Members
 with_member name b taken = take name (cond b (take (length_name name) taken) taken)
 
 keeps_taken : (name : List ℕ) (b : Bool) (taken : Members) (names : List (List ℕ)) → AreTaken taken names → AreTaken (with_member name b taken) names
-keeps_taken name true taken names h = all_still_taken name (take (length_name name) taken) names (all_still_taken (length_name name) taken names h)
-keeps_taken name false taken names h = all_still_taken name taken names h
+keeps_taken name b taken names h = by_test (λ (d : Bool). AreTaken (with_member name d taken) names) b (λ is. all_still_taken name (take (length_name name) taken) names (all_still_taken (length_name name) taken names h)) (λ is. all_still_taken name taken names h)
 
 -- a name that is free is none of those that are taken
 apart_from_taken : (taken : Members) (name : List ℕ) (names : List (List ℕ)) → is_taken taken name ≡ false → AreTaken taken names → list_any (bytes_eq name) names ≡ false
