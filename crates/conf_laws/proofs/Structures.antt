@@ -140,7 +140,7 @@ abbrev AreTaken : Members → List (List ℕ) → Type 0
 AreTaken taken names = AllByRecursion (λ name. is_taken taken name ≡ true) names
 
 takes_itself : (name : List ℕ) (taken : Members) → is_taken (take name taken) name ≡ true
-takes_itself name taken = (taken_put name name taken).1 (inl refl)
+takes_itself name taken = grind (arith, taken_put name name taken)
 
 all_still_taken : (name : List ℕ) (taken : Members) (names : List (List ℕ)) → AreTaken taken names → AreTaken (take name taken) names
 all_still_taken name taken [] h = tt

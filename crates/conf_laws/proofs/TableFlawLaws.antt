@@ -82,7 +82,7 @@ module _ (ms : Members) where
 -- ---- what a field type is as a whole
 
 has_number : (name : List ℕ) (ms : Members) (n : ℕ) → IsTrue (is_number (natural_in name ms) n) ↔ HasNumber name ms n
-has_number name ms n = (λ e. number_there name ms n (number_told (natural_in name ms) n e), λ has. ap (λ o. is_number o n) (number_found name ms n has) ∙ eq-eqb n n refl)
+has_number name ms n = grind (arith, nat_tests, number_there name ms n, number_found name ms n)
 
 given_number : (d : Data) (n : ℕ) → as_natural d ≡ Some n → given (Some d) ≡ Some d
 unfolding as_natural

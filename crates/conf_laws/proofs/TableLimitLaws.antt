@@ -144,12 +144,9 @@ by_fails _ d = (λ e. absurd cc, λ passed. absurd passed)
 abbrev pub IsLongLabel : Place → List ℕ → Type 0
 IsLongLabel place name = (entries : Entries) × (entries_of place ≡ Some entries) × (entries.keys ≡ keys.Label) × (4096 < length name)
 
-label_is : (by : Keys) → is_label by ≡ true → by ≡ keys.Label
-label_is by e = grind (arith, e)
-
 pub label_fails : (place : Place) (name : List ℕ) → (key_fits place name ≡ false) ↔ IsLongLabel place name
 unfolding key_fits
-label_fails place name = grind (arith, nat_tests, label_is)
+label_fails place name = grind (arith, nat_tests)
 
 -- ---- each limit that is told of
 

@@ -39,10 +39,6 @@ text_judged : (P : Flaw → Type 0) (test : List ℕ → Bool) (d : Data) → (a
     → ((s : List ℕ) → as_str d ≡ Some s → test s ≡ true → (flaw : Flaw) → ¬ P flaw) → IsJudged (text_of d >>= (λ s. only_if (test s))) P
 text_judged P test d none fails holds = kind_judged P (as_str d) _ none (λ s is. test_judged P (test s) (here OutOfRange) (fails s is) (holds s is))
 
--- the same flaws in other words
-pub same_judged : {A : Type 0} (P Q : Flaw → Type 0) (r : Result A Flaw) → ((flaw : Flaw) → P flaw → Q flaw) → ((flaw : Flaw) → Q flaw → P flaw) → IsJudged r P → IsJudged r Q
-same_judged P Q r to from h = grind (arith, to, from, h)
-
 -- ---- numbers
 
 -- two orders that cannot both be
@@ -182,7 +178,7 @@ number_there name ms n e = grind (arith, e)
 
 pub number_found : (name : List ℕ) (ms : Members) (n : ℕ) → HasNumber name ms n → natural_in name ms ≡ Some n
 unfolding natural_in
-number_found name ms n (d, there, is) = ap (option_and_then as_natural) there ∙ is
+number_found name ms n has = grind (arith, has)
 
 list_no_number : (d : Data) (ds : Items) (z : ℤ) → as_array d ≡ Some ds → ¬ IsWhole d z
 list_no_number d ds z is whole = grind (arith, is, whole)
@@ -201,12 +197,7 @@ module _ (around : Around) where
   -- what holds of the numbers of the enumeration around a value, where they are not all
   sized : {P : Type 0} (test : _ → Bool) → test all_numbers ≡ true → ((signed : Bool) (n : ℕ) → HasBits around signed n → test (record { low = lowest signed n; high = highest signed n }) ≡ false → P) → test (unwrap_or (option_map (λ (e : Bool × Members). numbers_in e.0 e.1) (enumeration_around around)) all_numbers) ≡ false → P
   unfolding numbers_in numbers_of
-  sized {P = P} test all sized_so =
-      by_found (λ (o : Option (Bool × Members)). test (unwrap_or (option_map (λ (e : Bool × Members). numbers_in e.0 e.1) o) all_numbers) ≡ false → P) (enumeration_around around) (λ is e. absurd (true≢false (sym all ∙ e))) (λ found is.
-      by_found (λ (o : Option ℕ). test (option_map_or (numbers_of found.0) o all_numbers) ≡ false → P) (natural_in (codes "size") found.1) (λ none e. absurd (true≢false (sym all ∙ e)))
-      (λ n has. by_test (λ (b : Bool). test (cond b all_numbers (record { low = lowest found.0 n; high = highest found.0 n })) ≡ false → P) (nat_eq n 0 || nat_lt 64 n) (λ is_none e. absurd (true≢false (sym all ∙ e))) (λ is_one e.
-      let p = or_parts (nat_eq n 0) (nat_lt 64 n) is_one in
-      sized_so found.0 n (found.1, is, number_there (codes "size") found.1 n has, (let other = eqb-false n 0 p.0 in omega (arith, other)), (let most = ltb-false 64 n p.1 in omega (arith, most))) e)))
+  sized {P = P} test all sized_so e = grind (arith, nat_tests, all, number_there (codes "size"), sized_so, e)
 
   numbers_there : (signed : Bool) (n : ℕ) → HasBits around signed n → unwrap_or (option_map (λ (e : Bool × Members). numbers_in e.0 e.1) (enumeration_around around)) all_numbers ≡ numbers_of signed n
   unfolding numbers_in
@@ -349,6 +340,4 @@ module _ (k : Known) (around : Around) (h : (name : List ℕ) → IsTrue (is_tak
   unfolding key_of
   name_judged place name d =
       by_found (λ (o : Option Entries). IsJudged (option_map_or (λ x. key_by k place x.keys name d) o (Ok tt)) (IsNoNameAt around place name d)) (entries_of place)
-      (λ none flaw wrong. some_none (entries_of place) wrong.0 wrong.1 none)
-      (λ entries is. same_judged (IsNoKey around place entries.keys name d) (IsNoNameAt around place name d) (key_by k place entries.keys name d) (λ flaw wrong. (entries, is, wrong))
-      (λ flaw wrong. subst (λ x. IsNoKey around place x.keys name d flaw) (some_same (entries_of place) wrong.0 entries wrong.1 is) wrong.2) (key_judged place entries.keys name d))
+      (λ none flaw wrong. some_none (entries_of place) wrong.0 wrong.1 none) (λ entries is. grind (arith, is, key_judged place entries.keys name d))
