@@ -88,20 +88,17 @@ found_here name k d ms = grind (arith, bytes_eq-Decides k name, bytes_eq-Decides
 pub at_name : {X : Type 0} (name : List ℕ) (walk : Members → X) (made : Option Data → X) → walk no_members ≡ made None → ((k : List ℕ) (d : Data) (ms : Members) → walk (member k d ms) ≡ cond (bytes_eq k name) (made (Some d)) (walk ms))
     → (ms : Members) → walk ms ≡ made (get_member name ms)
 at_name name walk made none step no_members = none
-at_name name walk made none step (member k d ms) =
-    step k d ms ∙ by_test (λ (b : Bool). cond b (made (Some d)) (walk ms) ≡ made (cond b (Some d) (get_member name ms))) (bytes_eq k name) (λ is. refl) (λ is. at_name name walk made none step ms) ∙ ap made (sym (found_here name k d ms))
+at_name name walk made none step (member k d ms) = grind (arith, step k d ms, found_here name k d ms, at_name name walk made none step ms)
 
 -- what holds of each property and of those behind it holds of each one, and of the one that is found
 module _ (P : Members → Type 0) (Q : List ℕ → Data → Type 0) (each : (k : List ℕ) (d : Data) (ms : Members) → P (member k d ms) → Q k d × P ms) where
   pub at_member : (name : List ℕ) (ms : Members) (d : Data) → P ms → HasMember name d ms → Q name d
   at_member name no_members d h has = absurd has
-  at_member name (member k e ms) d h (inl (same, is)) = subst (λ n. Q n d) (sym same) (subst (λ x. Q k x) (sym is) (each k e ms h).0)
-  at_member name (member k e ms) d h (inr has) = at_member name ms d (each k e ms h).1 has
+  at_member name (member k e ms) d h has = grind (arith, each k e ms h, at_member name ms d (each k e ms h).1, has)
 
   pub at_found : (name : List ℕ) (ms : Members) (d : Data) → P ms → get_member name ms ≡ Some d → Q name d
   at_found name no_members d h is = absurd cc
-  at_found name (member k e ms) d h is = by_test (λ (b : Bool). cond b (Some e) (get_member name ms) ≡ Some d → Q name d) (bytes_eq k name)
-      (λ same f. let value : e ≡ d = cc in subst (λ x. Q name x) value (subst (λ n. Q n e) ((bytes_eq-Decides k name).0 same) (each k e ms h).0)) (λ other f. at_found name ms d (each k e ms h).1 f) (sym (found_here name k e ms) ∙ is)
+  at_found name (member k e ms) d h is = grind (arith, bytes_eq-Decides k name, found_here name k e ms, each k e ms h, at_found name ms d (each k e ms h).1, is)
 
 pub element_is : (ms : Members) → element ms ≡ option_and_then field_type (get_member (codes "element-field-type") ms)
 element_is ms = at_name (codes "element-field-type") element (option_and_then field_type) refl (λ k d rest. refl) ms

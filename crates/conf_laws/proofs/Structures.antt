@@ -127,9 +127,7 @@ shown_of ms = names_in (shown_members 0 ms)
 
 shown_last : (n : ℕ) (ms : List (List ℕ × MemberType)) (name : List ℕ) (m : MemberType) → names_in (shown_members n (ms ++ (name, m) ∷ [])) ≡ names_in (shown_members n ms) ++ names_of (name, m)
 unfolding shown_members
-shown_last n [] name (Plain t) = refl
-shown_last n [] name (Dyn t Auto) = refl
-shown_last n [] name (Dyn t (AtMember i)) = refl
+shown_last n [] name m = grind arith
 shown_last n ((other, Plain t) ∷ ms) name m = ap (λ l. other ∷ l) (shown_last (n + 1) ms name m)
 shown_last n ((other, Dyn t Auto) ∷ ms) name m = ap (λ l. length_name other ∷ other ∷ l) (shown_last (n + 2) ms name m)
 shown_last n ((other, Dyn t (AtMember i)) ∷ ms) name m = ap (λ l. other ∷ l) (shown_last (n + 1) ms name m)

@@ -66,9 +66,8 @@ module _ (ms : Members) where
   ]
 
   row_kept : (rows : List Told) (row : Told) → rows_there ms rows ≡ Ok tt → Contains rows row → row_there ms row ≡ Ok tt
-  row_kept [] row e (i, lt, is) = absurd (omega (arith, lt))
-  row_kept (r ∷ rows) row e (zero, lt, is) = subst (λ x. row_there ms x ≡ Ok tt) is (both_read (row_there ms r) (λ _. rows_there ms rows) tt e).1
-  row_kept (r ∷ rows) row e (suc i, lt, is) = row_kept rows row (both_read (row_there ms r) (λ _. rows_there ms rows) tt e).2 (i, omega (arith, lt), is)
+  row_kept [] row e among = grind (arith, among)
+  row_kept (r ∷ rows) row e among = grind (arith, row_kept rows row, e, among)
 
   order_told : (place : Place) (flaw : Flaw) → orders_there place ms ≡ Err flaw → HasNotItsRows place ms flaw
   unfolding orders_there

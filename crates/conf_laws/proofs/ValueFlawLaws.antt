@@ -200,9 +200,8 @@ module _ (around : Around) where
   sized {P = P} test all sized_so e = grind (arith, nat_tests, all, number_there (codes "size"), sized_so, e)
 
   numbers_there : (signed : Bool) (n : ℕ) → HasBits around signed n → unwrap_or (option_map (λ (e : Bool × Members). numbers_in e.0 e.1) (enumeration_around around)) all_numbers ≡ numbers_of signed n
-  unfolding numbers_in
-  numbers_there signed n (ms, is, has, least, most) =
-      ap (λ o. unwrap_or (option_map (λ (e : Bool × Members). numbers_in e.0 e.1) o) all_numbers) is ∙ ap (λ o. option_map_or (numbers_of signed) o all_numbers) (number_found (codes "size") ms n has)
+  unfolding numbers_in natural_in
+  numbers_there signed n bits = grind (arith, bits)
 
   -- a number that a configuration can hold is outside of those of the enumeration where it is outside of its integer's
   module _ (numbers : _) (agrees : numbers ≡ unwrap_or (option_map (λ (e : Bool × Members). numbers_in e.0 e.1) (enumeration_around around)) all_numbers) (z : ℤ) where
@@ -210,10 +209,8 @@ module _ (around : Around) where
     ends_of signed n bits = grind (arith, agrees, numbers_there signed n bits, some_size signed n bits.3 bits.4)
 
     below : int_le lowest_end z ≡ true → (int_le numbers.low z ≡ false) ↔ ((signed : Bool) × (n : ℕ) × HasBits around signed n × (z <ℤ lowest signed n))
-    below least = (
-      λ e. sized (λ s. int_le s.low z) least (λ signed n bits less. (signed, n, bits, below_in z (lowest signed n) (le-false (lowest signed n) z less))) (ap (λ s. int_le s.low z) (sym agrees) ∙ e),
-      λ (signed, n, bits, less). ap (λ x. int_le x z) (ends_of signed n bits).0 ∙ fails_below z (lowest signed n) less,
-    )
+    unfolding numbers_in numbers_of
+    below least = grind (arith, nat_tests, agrees, number_there (codes "size"), ends_of, least, le-false, below_in, fails_below)
 
     above : int_le z highest_end ≡ true → (int_le z numbers.high ≡ false) ↔ ((signed : Bool) × (n : ℕ) × HasBits around signed n × (highest signed n <ℤ z))
     above most = (
