@@ -1,8 +1,8 @@
 -- What a judge knows around a value is what the value stands in.
-use Rattle.std.proofs.Common.{IsTrue, ◌≡◌, ◌⊎◌, ◌+◌, ◌<◌, ℕ, zero, suc, Some, inl, inr, sym, ap, subst, ◌∙◌, arith, ◌↔◌, ◌||◌, Bool, true, List, [], ◌∷◌, Contains, Option, refl, unwrap_or, option_map, option_and_then, cond}
-use Rattle.conf_laws.proofs.Words.{nat_tests, Around, member_of, item_of, levels_around, SaysDefault, HasDefault, IsBehindDefault, enumeration_around, IsDynamic, TakesName, IsBeside, IsTaken, Place, class_of, is_dynamic_array, Known, nothing, inside, behind, with_taken, is_true, says_default, class_of_member, is_dynamic, take, take_each, take_all, names_beside, with_names, is_taken, all_numbers, numbers_in, HasMember, get_member-put, get_member-put_other, Data, Items, item, null, boolean, object, Members, no_members, member, get_item, as_object, cases_lt, false≢true, or_cases, or_left, or_right, bytes_eq-Decides, own_names, length_name}
+use Rattle.std.proofs.Common.{IsTrue, ◌≡◌, ◌⊎◌, ◌+◌, ◌<◌, ℕ, zero, suc, Some, inl, inr, sym, ap, subst, ◌∙◌, arith, ◌↔◌, ◌||◌, Bool, true, List, [], ◌∷◌, Contains, refl, unwrap_or, option_map, cond}
+use Rattle.conf_laws.proofs.Words.{Around, member_of, item_of, levels_around, SaysDefault, HasDefault, IsBehindDefault, enumeration_around, IsDynamic, TakesName, IsBeside, IsTaken, Place, Known, nothing, inside, behind, with_taken, is_true, says_default, is_dynamic, take, take_each, take_all, names_beside, with_names, is_taken, all_numbers, numbers_in, HasMember, get_member-put, get_member-put_other, Data, Items, item, null, object, Members, no_members, member, get_item, false≢true, or_cases, or_left, or_right, bytes_eq-Decides, own_names, length_name}
 use Rattle.conf_laws.proofs.Words.places
-use Rattle.conf_laws.proofs.Readings.{some_same, class_told, only_dynamic}
+use Rattle.conf_laws.proofs.Readings.{only_dynamic}
 
 -- these are the items from place i on
 abbrev pub IsFrom : Items → ℕ → Items → Type 0

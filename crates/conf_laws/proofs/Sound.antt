@@ -1,9 +1,9 @@
 -- What an object and its properties are that have no flaw: its class may stand where it stands, a needed property is there, and each
 -- property that is there is what its row asks for. And what stands at the properties of an object, as entries of a map, and as items of a
 -- list, where no limit is passed and names are in order.
-use Rattle.std.proofs.Common.{codes, unwrap_or, arith, ◌≡◌, ◌++◌, ℕ, Bool, true, false, cond, List, [], ◌∷◌, map, Option, Some, None, Result, Ok, refl, sym, subst, ◌∙◌, suc, option_map, option_and_then, ap, length, Less, nat_cmp, nat_le, le-leb}
-use Rattle.conf_laws.proofs.Readings.{at_found, optional_found, by_found, by_test}
-use Rattle.conf_laws.proofs.Words.{Entries, is_by_index, and-false, wanted, entries_of, admits_class, presence_under, Told, rows_of, row_in, content_under, Place, At, Content, Needed, Presence, class_of, told_by, class_rule, all_there, resolved_content, is_left_out, left_out, is_needed, is_null, property_flaws, inner_flaws, member_flaws, content_flaws, item_flaws, rows_there, row_there, orders_there, admitted, itself_of, any_object, Known, inside, behind, with_taken, key_of, with_names, place_of_properties, item_content, is_position, own_place, shape_of, Flaw, key, within, index, optional, ◌>>=◌, needed, both_read, Data, object, Members, member, Items, item, no_members, get_member, as_object, nat_tests, bytes_eq-Decides, bytes_eq, object_at as object_in, ⊤, within_limit, fits, inner_limits, member_limits, key_fits, content_limits, item_limits, place_fits, arrays_fit, at_most, count_of, ranges_fit, AllAbove, IsInOrder, Ascends, MembersAscend, ItemsAscend, members_len, nothing, option_map_or, slice_cmp, IsStrictlySortedBy, AllByRecursion, properties, InByteOrder}
+use Rattle.std.proofs.Common.{codes, unwrap_or, arith, ◌≡◌, ◌++◌, ℕ, Bool, true, false, List, [], ◌∷◌, map, Option, Some, None, Result, Ok, refl, sym, subst, ◌∙◌, suc, option_map, option_and_then, ap, length, Less, nat_cmp}
+use Rattle.conf_laws.proofs.Readings.{at_found, optional_found, by_found}
+use Rattle.conf_laws.proofs.Words.{Entries, is_by_index, and-false, wanted, entries_of, admits_class, presence_under, Told, rows_of, row_in, content_under, Place, At, Content, Needed, Presence, class_of, told_by, class_rule, all_there, resolved_content, is_left_out, left_out, is_needed, is_null, property_flaws, inner_flaws, member_flaws, content_flaws, item_flaws, rows_there, row_there, orders_there, itself_of, any_object, Known, inside, behind, with_taken, key_of, with_names, place_of_properties, item_content, is_position, shape_of, Flaw, key, within, index, optional, ◌>>=◌, needed, both_read, Data, object, Members, member, Items, item, no_members, get_member, as_object, nat_tests, bytes_eq-Decides, bytes_eq, object_at as object_in, ⊤, within_limit, fits, inner_limits, member_limits, key_fits, content_limits, item_limits, place_fits, arrays_fit, at_most, count_of, ranges_fit, AllAbove, IsInOrder, Ascends, MembersAscend, ItemsAscend, members_len, nothing, slice_cmp, IsStrictlySortedBy, AllByRecursion, properties, InByteOrder}
 use Rattle.conf_laws.proofs.Words.places
 use Rattle.conf_laws.proofs.Words.contents
 

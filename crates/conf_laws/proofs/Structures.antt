@@ -1,13 +1,13 @@
 -- Field types, the members of a structure, structures and the extra members of a packet context that have no flaw say something; and where
 -- they pass no limit, that is what the rules allow: no array is empty where it stands in a dynamic array, static arrays nest as deep as the
 -- rules allow, and the names that members take are apart, also from names that were taken before.
-use Rattle.std.proofs.Common.{◌<◌, ◌≡◌, ◌%◌, ◌==◌, ◌&&◌, ℕ, nat_eq, Bool, true, false, cond, Some, nat_lt, nat_le, leb-true, arith, refl, sym, ap, subst, Option, Ok, ◌∙◌, ◌+◌, List, [], ◌∷◌, ◌++◌, length, All, length-append, append_assoc, ◌⊎◌, suc, inl, inr, codes, unwrap_or, option_and_then, zero, ◌*◌, ◌≤◌, max, not}
+use Rattle.std.proofs.Common.{◌<◌, ◌≡◌, ◌%◌, ◌==◌, ◌&&◌, ℕ, Bool, true, false, cond, Some, nat_lt, nat_le, leb-true, arith, refl, sym, ap, subst, Option, Ok, ◌∙◌, ◌+◌, List, [], ◌∷◌, ◌++◌, length, All, length-append, append_assoc, ◌⊎◌, suc, inl, inr, codes, unwrap_or, option_and_then, zero, ◌*◌, ◌≤◌, max}
 use Rattle.conf_laws.proofs.Agreement.{taken_put}
 use Rattle.conf_laws.proofs.AllowedMaps.{plain_name, integer_says, enumeration_says}
 use Rattle.conf_laws.proofs.Numbers.{alignment_or, needed_natural}
 use Rattle.conf_laws.proofs.Readings.{Says, proved_says, element_is, all_joined, under_no_test, optional_found, some_there, by_found, by_test, element_bits, in_array, by_element, same_natural}
 use Rattle.conf_laws.proofs.Sound.{HasRow, RowsSound, ContentSound, ObjectSound, object_sound, needed_sound, type_sound, class_place, object_at, content_sound, first_item, rows_sound, first_entry, optional_sound, IsWithin, AreWithin, AreItemsWithin, object_within, property_within, optional_within, entry_within, is_within, first_item_limits, fitting_parts, TypeSound}
-use Rattle.conf_laws.proofs.Words.{false_from_ne_true, nat_tests, chain_of, and_parts, is_alignment, rows_of, Presence, admits_class, is_dynamic_array, Place, At, entries_of, at_most, itself_of, form_of, Known, inside, is_position, inner_flaws, item_flaws, member_flaws, nothing, with_taken, take, is_taken, key_of, key_by, free_of, is_dynamic, class_of, class_of_member, elements, fits, arrays_fit, is_outermost, shape_of, with_names, names_beside, own_place, place_of_properties, item_content, Members, Data, object, get_member, optional, here, WrongKind, is_passed, members_len, items_len, both_read, plain_name_of, Items, no_items, item, no_members, member, array, as_array, as_object, eqb-true, false≢true, or_parts, All-push, All-nil, All-from_recursion, map-append, bytes_eq-Decides, IsDistinct, option_map_or, AllByRecursion, list_any, bytes_eq, field_type, element, object_at as object_named, list as list_in, member_type, member_said as member_of, behind_done, members_behind, made, align_for, listed, align_of, structure_of, structure, extra_members, names_in, own_names, IsPlainName, IsConfigMember, AreConfigMembers, IsConfigStruct, StructType, length_name, shown_members, Auto, AtMember, Plain, Dyn, MemberType, is_class, any_object, at_least_one, times, natural_in, is_number, is_static_array, has_bits, length_of, of_class, natural, IsNest, elements_of, IsConfigLeaf, Int, Enum, Str, Static, FieldType}
+use Rattle.conf_laws.proofs.Words.{false_from_ne_true, nat_tests, chain_of, and_parts, is_alignment, rows_of, Presence, admits_class, is_dynamic_array, Place, At, entries_of, at_most, itself_of, form_of, Known, inside, is_position, inner_flaws, item_flaws, member_flaws, nothing, with_taken, take, is_taken, key_of, key_by, free_of, is_dynamic, class_of, class_of_member, elements, fits, arrays_fit, is_outermost, shape_of, with_names, names_beside, own_place, place_of_properties, item_content, Members, Data, object, get_member, optional, is_passed, items_len, both_read, plain_name_of, Items, no_items, item, no_members, member, array, as_array, as_object, false≢true, or_parts, All-push, All-nil, All-from_recursion, map-append, bytes_eq-Decides, IsDistinct, option_map_or, AllByRecursion, list_any, bytes_eq, field_type, element, object_at as object_named, list as list_in, member_type, member_said as member_of, behind_done, members_behind, made, align_for, listed, align_of, structure_of, structure, extra_members, names_in, own_names, IsPlainName, IsConfigMember, AreConfigMembers, IsConfigStruct, StructType, length_name, shown_members, Auto, AtMember, Plain, Dyn, MemberType, is_class, any_object, at_least_one, times, natural_in, is_static_array, has_bits, length_of, of_class, natural, IsNest, elements_of, IsConfigLeaf, Int, Enum, Str, Static, FieldType}
 use Rattle.conf_laws.proofs.Words.places
 
 -- its static arrays nest no deeper than these levels, and have n elements in all

@@ -1,11 +1,11 @@
 -- Each limit that the walk over a configuration tells of is one that it passes by the table.
-use Rattle.std.proofs.Common.{◌≡◌, ◌⊎◌, ◌↔◌, ◌*◌, ◌/◌, ◌≤◌, ◌<◌, ℕ, zero, suc, Bool, true, false, cond, List, [], ◌∷◌, length, Option, Some, None, inl, inr, refl, sym, ap, subst, ◌∙◌, arith, ◌%◌, ◌==◌, ◌&&◌, Contains, is_some, Err, codes, unwrap_or, nat_le, nat_eq}
+use Rattle.std.proofs.Common.{◌≡◌, ◌⊎◌, ◌↔◌, ◌*◌, ◌≤◌, ◌<◌, ℕ, zero, suc, Bool, true, false, cond, List, [], ◌∷◌, length, Option, Some, None, inl, inr, refl, sym, ap, subst, ◌∙◌, arith, ◌&&◌, Contains, is_some, Err, codes, unwrap_or, nat_le, nat_eq}
 use Rattle.conf_laws.proofs.Agreement.{IsFrom, from_start, from_next, item_here}
 use Rattle.conf_laws.proofs.Readings.{some_same, at_member, class_told, only_static, of_element, in_array, by_found, by_test}
 use Rattle.conf_laws.proofs.Sound.{fits_there, limits_at, first_limits, first_item_limits}
 use Rattle.conf_laws.proofs.TableFlawLaws.{seen, refused_among}
 use Rattle.conf_laws.proofs.ValueFlawLaws.{none_there}
-use Rattle.conf_laws.proofs.Words.{All-weaker, All-append, All, HasMember, get_item, IsArray, HasElement, Nest, product, HasTooManyElements, PassesAt, IsLongText, IsNoPowerUpTo, PassesBy, PassesLimitOf, entries_of, content_under, Place, Content, Entries, Keys, class_of, told_by, times, at_least_one, elements, elements_in_array, within_limit, bytes_fit, divides, power_fits, is_outermost, arrays_fit, count_of, at_most, ranges_of, ranges_fit, place_fits, fits, is_label, key_fits, inner_limits, item_limits, member_limits, configuration_limits, content_limits, natural_in, place_of_properties, item_content, is_static_array, Flaw, key, index, here, within, refusal, Limit, as_natural, Data, object, Members, array, Items, no_items, item, no_members, member, get_member, nat_tests, mul-one, one-le-mul, mul-mod_right, leb-true, leb-false, lt-leb, ne_eqb, or_from, and_left, and_right, true≢false, eqb-false, and_cases, or_parts, All-nil, All-cons, All-contains, mul-le, option_map_or}
+use Rattle.conf_laws.proofs.Words.{All-weaker, All-append, All, HasMember, get_item, IsArray, HasElement, Nest, product, HasTooManyElements, PassesAt, IsLongText, IsNoPowerUpTo, PassesBy, PassesLimitOf, entries_of, content_under, Place, Content, Entries, class_of, told_by, times, at_least_one, elements, elements_in_array, within_limit, bytes_fit, power_fits, is_outermost, arrays_fit, count_of, at_most, ranges_fit, place_fits, fits, key_fits, inner_limits, item_limits, member_limits, configuration_limits, content_limits, natural_in, place_of_properties, item_content, is_static_array, Flaw, key, index, here, within, refusal, Limit, Data, object, Members, array, Items, no_items, item, no_members, member, get_member, nat_tests, mul-one, one-le-mul, mul-mod_right, leb-true, leb-false, true≢false, and_cases, All-nil, All-cons, All-contains, mul-le, option_map_or}
 use Rattle.conf_laws.proofs.Words.places
 use Rattle.conf_laws.proofs.Words.contents
 use Rattle.conf_laws.proofs.Words.keys
