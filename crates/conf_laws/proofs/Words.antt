@@ -1,27 +1,24 @@
 -- The words and lemmas of std and of the crates below that the proofs speak of, and those of the definitions.
 pub use Rattle.std.proofs.{Math.Bool.and-false, Math.Nat.{mul-mod_right, mul-one, one-le-mul}, Math.Pow.pow_mono}
-pub use Rattle.std.proofs.lemmas.Bool.{agree_below_at, and_cases, and_from, and_left, and_parts, and_right, cases_lt, eq-eqb, eqb-false, eqb-true, false_from_ne_true, false≢true, leb-false}
-pub use Rattle.std.proofs.lemmas.Bool.{leb-true, lt-leb, ltb-false, ltb-true, ne_eqb, or_cases, or_from, or_left, or_parts, or_right, true≢false}
-pub use Rattle.std.proofs.{lemmas.Bool.Decides.nat_tests, lemmas.Cmp.{nat_list_cmp_total, tied_itself}, lemmas.Float.T_from_true}
+pub use Rattle.std.proofs.lemmas.Bool.{agree_below_at, and_cases, and_from, and_parts, cases_lt, false_from_ne_true, false≢true, leb-false}
+pub use Rattle.std.proofs.lemmas.Bool.{leb-true, ltb-false, or_cases, or_left, or_parts, or_right, true≢false}
 pub use Rattle.std.proofs.lemmas.List.Elements.{All-append, All-cons, All-contains, All-from_recursion, All-map, All-nil, All-push, All-weaker}
-pub use Rattle.std.proofs.{lemmas.List.Folds.{list_all_at, list_any_at}, lemmas.Map.Text.is_eq-slice_cmp, lemmas.Nat.mul-le}
-pub use Rattle.std.proofs.lemmas.{List.{append-nil, length-map, map-append}, Option.{cond_some, same_Some}, Slice.Eq.bytes_eq-Decides}
-pub use Rattle.std.specs.{Cmp.Lexicographic.slice_cmp, Int.Signed.le_z_yes, List.{All, AllByRecursion, list_any}, Option.option_map_or, Ordering.match_ordering, Prelude.⊤}
-pub use Rattle.std.specs.Str.{bytes_eq}
+pub use Rattle.std.proofs.lemmas.{Bool.Decides.nat_tests, Cmp.{nat_list_cmp_total, tied_itself}, List.Folds.{list_all_at, list_any_at}, Map.Text.is_eq-slice_cmp, Nat.mul-le}
+pub use Rattle.std.proofs.lemmas.{List.{append-nil, length-map, map-append}, Option.same_Some, Slice.Eq.bytes_eq-Decides}
+pub use Rattle.std.specs.{Cmp.Lexicographic.slice_cmp, List.{All, AllByRecursion, list_any}, Option.option_map_or, Prelude.⊤, Str.bytes_eq}
 unfoldable pub use Rattle.std.specs.{List.IsDistinct, List.Sorted.IsStrictlySortedBy}
 pub use Rattle.conf_tree.specs.{Flaw.{Flaw, Place as PathPart, here, index, key, within}, Order.{AllAbove, Ascends, IsInOrder, ItemsAscend, MembersAscend}}
-pub use Rattle.conf_tree.specs.{Reading.{at, flag_of, given, needed, optional, text_of, wanted, whole_or_not, ◌>>=◌}, Walk.{HasMember, refusal}}
-pub use Rattle.conf_tree.specs.declared.fault_kind.FaultKind.{FaultKind}
-pub use Rattle.conf_tree.specs.declared.fault_kind.FaultKind.TheVariants.{BadName, Limit, Missing, NameClash, NoSuchAlias, OutOfRange, ReservedName, Unknown, WrongKind}
+pub use Rattle.conf_tree.specs.{Reading.{at, flag_of, given, needed, optional, text_of, wanted, ◌>>=◌}, Walk.{HasMember, refusal}}
+pub use Rattle.conf_tree.specs.declared.fault_kind.FaultKind.{FaultKind, TheVariants.{Limit, Missing, NameClash, OutOfRange, ReservedName, Unknown, WrongKind}}
 unfoldable pub use Rattle.conf_tree.specs.Reading.{whole_of}
 pub use Rattle.conf_values.proofs.LeafFlawLaws.{control_there, found_there, lacks_refused, listed as word_listed, name_refused, none_refused, plain_name_refused}
-pub use Rattle.conf_values.proofs.LeafFlawLaws.{refused_here_or_next, refused_test, refused_where, wanted_found, whole_refused}
+pub use Rattle.conf_values.proofs.LeafFlawLaws.{refused_here_or_next, whole_refused}
 pub use Rattle.conf_values.proofs.Steps.{both_read, is_passed, ok_same, read_there}
 pub use Rattle.conf_values.specs.LeafFlaws.{IsControl, IsNoConfigText, IsNoFlag, IsNoList, IsNoName, IsNoObject, IsNoPlainName, IsNoText, IsNoUuid, IsNoWhole, IsNoWordOf}
-pub use Rattle.conf_values.specs.{Parts.proved, Scalar.{integer_or_none, is_printable, natural_or_none}}
+pub use Rattle.conf_values.specs.{Parts.proved, Scalar.is_printable}
 unfoldable pub use Rattle.conf_values.specs.{Name.{is_reserved, name_of, plain_name_of}, Scalar.{as_natural, uuid_in}}
 pub use Rattle.serde_json.proofs.Views.{get_member-put, get_member-put_other}
-pub use Rattle.serde_json.specs.Data.{Data, Items, Members, Num, array, boolean, item, member, no_items, no_members, null, number, object, string, unsigned}
+pub use Rattle.serde_json.specs.Data.{Data, Items, Members, array, boolean, item, member, no_items, no_members, null, number, object, string, unsigned}
 pub use Rattle.serde_json.specs.{Events.{items_len, members_len}, Find.{as_array, as_bool, as_integer, as_number, as_object, as_str, get_item, get_member}}
 unfoldable pub use Rattle.conf_table.specs.{Classes.{admits_class, class_of, class_words, is_class}, Table.{content_under, entries_of, presence_under, rows_of}}
 unfoldable pub use Rattle.conf_table.specs.Words.{words_of}
@@ -35,10 +32,10 @@ unfoldable pub use Rattle.conf_judge.specs.Limits.{arrays_fit, fits, is_outermos
 unfoldable pub use Rattle.conf_judge.specs.Names.{free_of, is_dynamic, key_by, key_of, names_beside}
 unfoldable pub use Rattle.conf_judge.specs.Numbers.{inside_of, is_inside, natural_in, numbers_in, numbers_of, pair_of, range_of}
 unfoldable pub use Rattle.conf_judge.specs.{Places.{is_position, item_content, own_place, place_of_properties}, Shapes.{is_identifier, shape_of}}
-pub use Rattle.conf_judge.specs.Flaws.{admitted, configuration_flaws, content_flaws, inner_flaws, is_needed, is_null, item_flaws, left_out, may_inherit, member_flaws}
+pub use Rattle.conf_judge.specs.Flaws.{admitted, configuration_flaws, content_flaws, inner_flaws, is_needed, is_null, item_flaws, left_out, member_flaws}
 pub use Rattle.conf_judge.specs.{Flaws.{property_flaws, row_there, rows_there, told_by}, Known.{Known, is_true, members_or_none, nothing, says_default, with_taken}}
 pub use Rattle.conf_judge.specs.Limits.{at_least_one, at_most, bytes_fit, configuration_limits, content_limits, count_of, divides, elements, elements_in_array, inner_limits}
-pub use Rattle.conf_judge.specs.Limits.{is_label, item_limits, member_limits, ranges_in as counted_ranges, ranges_of, times, within_limit}
+pub use Rattle.conf_judge.specs.Limits.{item_limits, member_limits, ranges_in as counted_ranges, times, within_limit}
 pub use Rattle.conf_judge.specs.{Names.{class_of_member, is_taken, take, take_all, take_each, with_names}, Numbers.{all_numbers, end_of, single_of}}
 pub use Rattle.conf_judge.specs.{Leaves.{is_power_of_two, only_if}, Shapes.{element_has_bits, has_bits, is_byte, is_eight, is_number}}
 unfoldable pub use Rattle.conf_draft.specs.{Alignments.alignment, Clocks.{clock_type, clock_types}, Enumerations.enumeration, Environments.environment}
