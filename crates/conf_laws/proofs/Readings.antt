@@ -47,13 +47,9 @@ byte_object o e = grind (arith, e)
 pub word_there : (o : Option Data) (w : List ℕ) → option_and_then as_str o ≡ Some w → o ≡ Some (string w)
 word_there o w e = grind (arith, e)
 
-given_natural : (o : Option Data) → option_and_then as_natural (given o) ≡ option_and_then as_natural o
-unfolding as_natural
-given_natural o = grind arith
-
 pub same_natural : (name : List ℕ) (ms : Members) → natural name ms ≡ natural_in name ms
-unfolding natural natural_in
-same_natural name ms = given_natural (get_member name ms)
+unfolding natural natural_in as_natural
+same_natural name ms = grind arith
 
 -- ---- tests
 

@@ -34,7 +34,7 @@ module _ (ms : Members) (class : Place) (is : class_of ms ≡ Some class) (other
   alone t none leaf = record {
     leaf = leaf;
     bits = λ some. subst (λ (l : List ℕ). AllByRecursion (λ n. 0 < n) l) (sym none) tt;
-    nests = λ levels n e. grind (arith, none, counted_one levels n e);
+    nests = λ levels n e. grind (arith, none, is, other, e);
   }
 
 -- ---- static arrays
@@ -42,9 +42,6 @@ module _ (ms : Members) (class : Place) (is : class_of ms ≡ Some class) (other
 -- the product of two counts, where it is not too large
 times_told : (a b : Option ℕ) (m : ℕ) → times a b ≡ Some m → (first second : ℕ) × (a ≡ Some first) × (b ≡ Some second) × (m ≡ first * second) × (m ≤ 1048576)
 times_told a b m e = grind (arith, nat_tests, e)
-
-own_is : (o : Option ℕ) (own : ℕ) → at_least_one o ≡ Some own → max 1 (unwrap_or o 0) ≡ own
-own_is o own e = grind (arith, nat_tests, e)
 
 -- an array of so many of these
 module _ (ms : Members) (static : option_map_or is_static_array (class_of ms) false ≡ true) (n : ℕ) (is : natural (codes "length") ms ≡ Some n) (value : Data) (inner : FieldType) (there : get_member (codes "element-field-type") ms ≡ Some value) where
@@ -60,7 +57,7 @@ module _ (ms : Members) (static : option_map_or is_static_array (class_of ms) fa
       nests (suc levels) m e =
           let (first, second, counted, within, product, most) = times_told (at_least_one (natural_in (codes "length") ms)) (elements levels value) m (grind (arith, static, there, in_array levels (at_least_one (natural_in (codes "length") ms)) ms, e)) in
           let inside = one.nests levels second within in
-          grind (arith, same_natural (codes "length") ms, own_is (natural_in (codes "length") ms) first counted, inside, product, most)
+          grind (arith, nat_tests, same_natural (codes "length") ms, counted, inside, product, most)
 
 -- ---- a field type by its class
 

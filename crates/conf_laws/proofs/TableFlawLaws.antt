@@ -24,23 +24,19 @@ left o d = grind arith
 
 -- ---- the class
 
-other_told : (place : Place) → ((place ≡ places.IdentifierFeature) × (other_class place ≡ OutOfRange)) ⊎ ((place ≢ places.IdentifierFeature) × (other_class place ≡ WrongKind))
-unfolding other_class
-other_told place = grind arith
-
 module _ (place : Place) (ms : Members) where
   class_excluded : (d : Data) (w : List ℕ) (class : Place) (flaw : Flaw) → get_member (codes "class") ms ≡ Some d → as_str d ≡ Some w → class_in w class_words ≡ Some class → class_of ms ≡ Some class → admits_class place class ≡ true → ¬ IsNoClassAt place ms flaw
   class_excluded d w class flaw there text found is holds wrong = grind (arith, word_excluded words_of_classes d w, (class_word w).0, there, text, found, is, holds, wrong)
 
   module _ (position : is_position place ≡ true) (d : Data) (there : get_member (codes "class") ms ≡ Some d) where
     word_judged : (w : List ℕ) → as_str d ≡ Some w → IsJudged (admitted place (class_in w class_words)) (IsNoClassAt place ms)
-    unfolding class_of
+    unfolding class_of other_class
     word_judged w text =
         by_found (λ (o : Option Place). IsJudged (admitted place o) (IsNoClassAt place ms)) (class_in w class_words)
         (λ none. IsNoClassAt.no_class position (inr (d, here OutOfRange, there, IsNoWordOf.another_word w text (λ among. true≢false (sym ((class_word w).1 among) ∙ ap is_some none)), refl)))
         (λ class found.
         let said : class_of ms ≡ Some class = ap class_said there ∙ ap class_named text ∙ found in
-        test_judged (IsNoClassAt place ms) (admits_class place class) (here (other_class place)) (λ fails. grind (arith, other_told place, position, said, fails, IsNoClassAt.no_array, IsNoClassAt.another_class)) (λ holds flaw. class_excluded d w class flaw there text found said holds))
+        test_judged (IsNoClassAt place ms) (admits_class place class) (here (other_class place)) (λ fails. grind (arith, position, said, fails, IsNoClassAt.no_array, IsNoClassAt.another_class)) (λ holds flaw. class_excluded d w class flaw there text found said holds))
 
   no_position : (flaw : Flaw) → is_position place ≡ false → ¬ IsNoClassAt place ms flaw
   unfolding is_position
@@ -83,12 +79,9 @@ module _ (ms : Members) where
 has_number : (name : List ℕ) (ms : Members) (n : ℕ) → IsTrue (is_number (natural_in name ms) n) ↔ HasNumber name ms n
 has_number name ms n = grind (arith, nat_tests, number_there name ms n, number_found name ms n)
 
-given_number : (d : Data) (n : ℕ) → as_natural d ≡ Some n → given (Some d) ≡ Some d
-unfolding as_natural
-given_number d n e = grind (arith, e)
-
 eight : (ms : Members) → IsTrue (is_eight (optional (codes "alignment") ms)) ↔ ((optional (codes "alignment") ms ≡ None) ⊎ HasNumber (codes "alignment") ms 8)
-eight ms = grind (arith, nat_tests, optional_there (codes "alignment") ms, number_told, given_number)
+unfolding as_natural
+eight ms = grind (arith, nat_tests, optional_there (codes "alignment") ms, number_told)
 
 byte : (ms : Members) → IsTrue (is_byte (Some (object ms))) ↔ IsByte ms
 byte ms = grind (arith, nat_tests, class_told is_unsigned_integer places.UnsignedInteger only_unsigned (class_of ms), has_number (codes "size") ms 8, eight ms)
