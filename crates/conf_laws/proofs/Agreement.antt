@@ -77,7 +77,7 @@ each_taken (n ∷ names) taken name = joined (each_taken names (take n taken) na
 
 pub dynamic_told : (d : Data) → is_dynamic d ≡ true → IsDynamic d
 unfolding is_dynamic
-dynamic_told d e = grind (arith, only_dynamic, e)
+dynamic_told d e = grind (arith, e)
 
 pub told_dynamic : (d : Data) → IsDynamic d → is_dynamic d ≡ true
 unfolding is_dynamic

@@ -42,11 +42,8 @@ integer_says k place signed ms size h =
 
 -- ---- one range
 
-end_is : (d : Data) (x : ℤ) → IsWhole d x → x ≡ whole (Some d)
-end_is d x whole = grind (arith, whole)
-
 range_is : (d : Data) (x y : ℤ) → IsRange d x y → (x ≡ low d) × (y ≡ high d)
-range_is d x y is = grind (arith, end_is, is)
+range_is d x y is = grind (arith, is)
 
 -- from low to high, not empty and inside the numbers that are known
 abbrev pub is_known : Known → ℤ → ℤ → Bool

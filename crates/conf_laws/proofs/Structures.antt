@@ -376,16 +376,12 @@ object_says k ms h =
     let s = made_says members.0 (align_for members.0 (align_of ms)) (aligned members.0 (align_of ms) (alignment_or (codes "minimum-alignment") 1 ms refl)) in
     (s.0, ap (option_and_then (λ all. made all (align_for all (align_of ms)))) members.1 ∙ s.1, λ good. struct_of members.0 (align_of ms) s.0 s.2 (members.2.1 good))
 
-structure_class : (class : Place) → admits_class places.StructureType class ≡ true → class ≡ places.Structure
-unfolding admits_class
-structure_class class a = grind (arith, a)
-
 type_structure : (k : Known) (d : Data) → ContentSound k (At places.StructureType) d → Says (option_map_or structure_of (as_object d) (made [] 1)) (λ s. IsWithin (At places.StructureType) d → IsConfigStruct s)
-unfolding itself_of form_of is_position inside
+unfolding itself_of form_of is_position inside admits_class
 type_structure k d h =
     let (os, is, sound) = object_at k places.StructureType d h refl in
     let t = type_sound k places.StructureType os refl sound in
-    let same = structure_class t.class t.may_stand in
+    let same : t.class ≡ places.Structure = grind (arith, t.may_stand) in
     let s = object_says k os (subst (λ p. RowsSound (inside p os k) p os) same t.rows) in
     (s.0, ap (λ x. option_map_or structure_of (as_object x) (made [] 1)) is ∙ s.1, λ good. s.2 (object_within places.StructureType places.Structure os (class_place places.StructureType os places.Structure refl (t.is ∙ ap Some same)) (subst (λ x. IsWithin (At places.StructureType) x) is good)))
 

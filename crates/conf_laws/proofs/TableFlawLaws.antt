@@ -77,7 +77,8 @@ module _ (ms : Members) where
 -- ---- what a field type is as a whole
 
 has_number : (name : List ℕ) (ms : Members) (n : ℕ) → IsTrue (is_number (natural_in name ms) n) ↔ HasNumber name ms n
-has_number name ms n = grind (arith, nat_tests, number_there name ms n, number_found name ms n)
+unfolding natural_in
+has_number name ms n = grind (arith, nat_tests)
 
 eight : (ms : Members) → IsTrue (is_eight (optional (codes "alignment") ms)) ↔ ((optional (codes "alignment") ms ≡ None) ⊎ HasNumber (codes "alignment") ms 8)
 unfolding as_natural

@@ -25,13 +25,10 @@ size_is ms t n made is = grind (arith, same_natural (codes "size") ms, number_to
 
 -- ---- the type that a feature has: the one that it says itself, or its default
 
-on_or_off : (P : IntType → Type 0) (b : Bool) (t : IntType) → P t → OnlyIf (cond b (Some t) None) P
-on_or_off P b t h = grind (arith, h)
-
 value_says : (P : IntType → Type 0) (of : Members → Option IntType) (b : Bool) (t : IntType) (o : Option Data) → P t → ((ms : Members) → o ≡ Some (object ms) → Says (of ms) P) → Says (feature_of of b t o) (λ x. OnlyIf x P)
 value_says P of b t (Some (object ms)) h own = mapped_says P (λ x. OnlyIf x P) (λ x. Some x) (of ms) (λ x one y is. subst P (same_Some x y is) one) (own ms refl)
-value_says P of b t (Some (boolean c)) h own = (_, refl, on_or_off P c t h)
-value_says P of b t _ h own = (_, refl, on_or_off P b t h)
+value_says P of b t (Some (boolean c)) h own = (_, refl, grind (arith, h))
+value_says P of b t _ h own = (_, refl, grind (arith, h))
 
 -- an unsigned integer of this clock, or of none
 abbrev pub IsOfClock : Option (List ℕ) → IntType → Type 0
@@ -273,9 +270,6 @@ streams_say k ms levels f =
 abbrev IsGoodConfig : Config → Type 0
 IsGoodConfig c = KeepsRules c → IsConfig c
 
-levels_same : (o : Option Data) → members_or_none o ≡ unwrap_or (option_and_then as_object o) no_members
-levels_same o = grind arith
-
 type_says : (k : Known) (given : Option (List ℕ)) (entries : List EnvironmentEntry) (ms : Members) → k.levels ≡ properties (codes "$log-level-aliases") ms → member_flaws k places.TraceType ms ≡ []
     → Says (draft_of_type given entries ms) (λ draft. IsEnvironment entries → AreWithin places.TraceType ms → IsGoodConfig draft.config)
 unfolding draft_of_type rows_of inside itself_of form_of place_of_properties is_position own_place
@@ -307,7 +301,7 @@ trace_says : (k : Known) (given : Option (List ℕ)) (ms : Members) → RowsSoun
 unfolding draft_of_trace inside properties object_named rows_of itself_of form_of place_of_properties is_position own_place
 trace_says k given ms h =
     let t = needed_object k places.Trace places.TraceType (codes "type") ms (refl, refl) (λ j d os. (refl, refl)) h in
-    let type = type_says (inside places.TraceType t.0 k) given (environment ms) t.0 (levels_same (optional (codes "$log-level-aliases") t.0)) t.2.flaws in
+    let type = type_says (inside places.TraceType t.0 k) given (environment ms) t.0 (grind arith) t.2.flaws in
     (type.0, ap (option_and_then (draft_of_type given (environment ms))) t.1 ∙ type.1, λ good. type.2 (environment_allowed k ms h.flaws good) (object_within places.TraceType places.TraceType t.0 refl (optional_within places.Trace (codes "type") (At places.TraceType) (refl, refl) ms (object t.0) good (object_there (optional (codes "type") ms) t.0 t.1))))
 
 root_says : (k : Known) (given : Option (List ℕ)) (ms : Members) → RowsSound k places.Root ms → Says (draft_of_root given ms) (λ draft. AreWithin places.Root ms → IsGoodConfig draft.config)

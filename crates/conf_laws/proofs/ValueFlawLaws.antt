@@ -55,9 +55,6 @@ whole_judged : (low high : ℤ) (d : Data) → IsJudged (whole_from low high d) 
 unfolding whole_from
 whole_judged low high d = then_judged (IsNoWhole low high d) (whole_of low high d) _ (whole_refused low high d) (λ z went flaw. let (whole, least, most) = whole_read low high d z went in whole_excluded low high d z flaw whole (least, most))
 
-a_power : (z : ℤ) → is_power_of_two z ≡ true → IsPowerOfTwo z
-a_power z e = grind (arith, nat_tests, divisors_of_pow 63, e)
-
 no_power : (z : ℤ) → int_le z (pos 18446744073709551615) ≡ true → is_power_of_two z ≡ false → ¬ IsPowerOfTwo z
 no_power z most e (k, is) =
     elim (cases_lt k 64) [
@@ -70,7 +67,7 @@ no_power z most e (k, is) =
 
 power_judged : (d : Data) → IsJudged (power_of d) (IsNoPowerOfTwo d)
 unfolding power_of
-power_judged d = then_judged (IsNoPowerOfTwo d) (whole_of (pos 1) (pos 18446744073709551615) d) _ (λ flaw r. IsNoPowerOfTwo.no_number (whole_refused (pos 1) (pos 18446744073709551615) d flaw r)) (λ z went. grind (arith, nat_tests, whole_read (pos 1) (pos 18446744073709551615) d z went, whole_excluded (pos 1) (pos 18446744073709551615) d z, a_power z, no_power z, whole_same, IsNoPowerOfTwo.no_power))
+power_judged d = then_judged (IsNoPowerOfTwo d) (whole_of (pos 1) (pos 18446744073709551615) d) _ (λ flaw r. IsNoPowerOfTwo.no_number (whole_refused (pos 1) (pos 18446744073709551615) d flaw r)) (λ z went. grind (arith, nat_tests, whole_read (pos 1) (pos 18446744073709551615) d z went, whole_excluded (pos 1) (pos 18446744073709551615) d z, divisors_of_pow 63, no_power z, whole_same, IsNoPowerOfTwo.no_power))
 
 -- ---- kinds
 
@@ -196,8 +193,8 @@ fails_below a b less = false_from_ne_true (int_le b a) (λ is. not_both_ways b a
 module _ (around : Around) where
   -- what holds of the numbers of the enumeration around a value, where they are not all
   sized : {P : Type 0} (test : _ → Bool) → test all_numbers ≡ true → ((signed : Bool) (n : ℕ) → HasBits around signed n → test (record { low = lowest signed n; high = highest signed n }) ≡ false → P) → test (unwrap_or (option_map (λ (e : Bool × Members). numbers_in e.0 e.1) (enumeration_around around)) all_numbers) ≡ false → P
-  unfolding numbers_in numbers_of
-  sized {P = P} test all sized_so e = grind (arith, nat_tests, all, number_there (codes "size"), sized_so, e)
+  unfolding numbers_in numbers_of natural_in
+  sized {P = P} test all sized_so e = grind (arith, nat_tests, all, sized_so, e)
 
   numbers_there : (signed : Bool) (n : ℕ) → HasBits around signed n → unwrap_or (option_map (λ (e : Bool × Members). numbers_in e.0 e.1) (enumeration_around around)) all_numbers ≡ numbers_of signed n
   unfolding numbers_in natural_in
@@ -209,8 +206,8 @@ module _ (around : Around) where
     ends_of signed n bits = grind (arith, agrees, numbers_there signed n bits, some_size signed n bits.3 bits.4)
 
     below : int_le lowest_end z ≡ true → (int_le numbers.low z ≡ false) ↔ ((signed : Bool) × (n : ℕ) × HasBits around signed n × (z <ℤ lowest signed n))
-    unfolding numbers_in numbers_of
-    below least = grind (arith, nat_tests, agrees, number_there (codes "size"), ends_of, least, le-false, below_in, fails_below)
+    unfolding numbers_in numbers_of natural_in
+    below least = grind (arith, nat_tests, agrees, ends_of, least, le-false, below_in, fails_below)
 
     above : int_le z highest_end ≡ true → (int_le z numbers.high ≡ false) ↔ ((signed : Bool) × (n : ℕ) × HasBits around signed n × (highest signed n <ℤ z))
     above most = (
