@@ -234,7 +234,7 @@ environment_allowed k ms f h =
 description_allowed : (k : Known) (ms : Members) (s : List ℕ) → member_flaws k places.ClockType ms ≡ [] → AreWithin places.ClockType ms → word (codes "description") ms ≡ Some s → IsConfigText s
 unfolding itself_of leaf_of fits word rows_of
 description_allowed k ms s f h e =
-    let there = word_there (optional (codes "description") ms) s e in
+    let there : optional (codes "description") ms ≡ Some (string s) = grind (arith, e) in
     config_text s (is_passed _ tt tt _ (optional_sound k places.ClockType (codes "description") (Text 4096) ms (string s) (refl, refl) f there).value.itself).0 (optional_within places.ClockType (codes "description") (Text 4096) (refl, refl) ms (string s) h there).fitting
 
 frequency_positive : (k : Known) (ms : Members) → member_flaws k places.ClockType ms ≡ [] → 0 < unwrap_or (natural (codes "frequency") ms) 1000000000

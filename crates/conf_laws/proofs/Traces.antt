@@ -21,7 +21,7 @@ unsigned_says k place ms t is = integer_says (inside t.class ms k) places.Unsign
 
 size_is : (ms : Members) (t : IntType) (n : ℕ) → IsMade (size_of ms) (align_of ms) false t → is_number (natural_in (codes "size") ms) n ≡ true → t.size ≡ n
 unfolding size_of
-size_is ms t n made is = grind (arith, same_natural (codes "size") ms, number_told, made, is)
+size_is ms t n made is = grind (arith, nat_tests, same_natural (codes "size") ms, made, is)
 
 -- ---- the type that a feature has: the one that it says itself, or its default
 
@@ -302,14 +302,14 @@ unfolding draft_of_trace inside properties object_named rows_of itself_of form_o
 trace_says k given ms h =
     let t = needed_object k places.Trace places.TraceType (codes "type") ms (refl, refl) (λ j d os. (refl, refl)) h in
     let type = type_says (inside places.TraceType t.0 k) given (environment ms) t.0 (grind arith) t.2.flaws in
-    (type.0, ap (option_and_then (draft_of_type given (environment ms))) t.1 ∙ type.1, λ good. type.2 (environment_allowed k ms h.flaws good) (object_within places.TraceType places.TraceType t.0 refl (optional_within places.Trace (codes "type") (At places.TraceType) (refl, refl) ms (object t.0) good (object_there (optional (codes "type") ms) t.0 t.1))))
+    (type.0, ap (option_and_then (draft_of_type given (environment ms))) t.1 ∙ type.1, λ good. type.2 (environment_allowed k ms h.flaws good) (object_within places.TraceType places.TraceType t.0 refl (optional_within places.Trace (codes "type") (At places.TraceType) (refl, refl) ms (object t.0) good (grind (arith, t.1)))))
 
 root_says : (k : Known) (given : Option (List ℕ)) (ms : Members) → RowsSound k places.Root ms → Says (draft_of_root given ms) (λ draft. AreWithin places.Root ms → IsGoodConfig draft.config)
 unfolding draft_of_root inside object_named rows_of itself_of form_of place_of_properties is_position own_place
 root_says k given ms h =
     let t = needed_object k places.Root places.Trace (codes "trace") ms (refl, refl) (λ j d os. (refl, refl)) h in
     let trace = trace_says k given t.0 t.2 in
-    (trace.0, ap (option_and_then (draft_of_trace given)) t.1 ∙ trace.1, λ good. trace.2 (object_within places.Trace places.Trace t.0 refl (optional_within places.Root (codes "trace") (At places.Trace) (refl, refl) ms (object t.0) good (object_there (optional (codes "trace") ms) t.0 t.1))))
+    (trace.0, ap (option_and_then (draft_of_trace given)) t.1 ∙ trace.1, λ good. trace.2 (object_within places.Trace places.Trace t.0 refl (optional_within places.Root (codes "trace") (At places.Trace) (refl, refl) ms (object t.0) good (grind (arith, t.1)))))
 
 tree_says : (given : Option (List ℕ)) (d : Data) → configuration_flaws d ≡ [] → Says (draft_of given d) (λ draft. IsWithin (At places.Root) d → IsGoodConfig draft.config)
 unfolding inside itself_of form_of place_of_properties is_position own_place

@@ -169,14 +169,6 @@ level_judged levels high d = grind (arith, whole_judged (pos 0) high, IsNoLevel.
 
 -- ---- ranges
 
-pub number_there : (name : List ℕ) (ms : Members) (n : ℕ) → natural_in name ms ≡ Some n → HasNumber name ms n
-unfolding natural_in
-number_there name ms n e = grind (arith, e)
-
-pub number_found : (name : List ℕ) (ms : Members) (n : ℕ) → HasNumber name ms n → natural_in name ms ≡ Some n
-unfolding natural_in
-number_found name ms n has = grind (arith, has)
-
 list_no_number : (d : Data) (ds : Items) (z : ℤ) → as_array d ≡ Some ds → ¬ IsWhole d z
 list_no_number d ds z is whole = grind (arith, is, whole)
 
