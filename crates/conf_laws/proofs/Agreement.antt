@@ -2,7 +2,6 @@
 use Rattle.std.proofs.Common.{IsTrue, ◌≡◌, ◌⊎◌, ◌+◌, ◌<◌, ℕ, zero, suc, Some, inl, inr, sym, ap, subst, ◌∙◌, arith, ◌↔◌, ◌||◌, Bool, true, List, [], ◌∷◌, Contains, refl, unwrap_or, option_map, cond}
 use Rattle.conf_laws.proofs.Words.{Around, member_of, item_of, levels_around, SaysDefault, HasDefault, IsBehindDefault, enumeration_around, IsDynamic, TakesName, IsBeside, IsTaken, Place, Known, nothing, inside, behind, with_taken, is_true, says_default, is_dynamic, take, take_each, take_all, names_beside, with_names, is_taken, all_numbers, numbers_in, HasMember, get_member-put, get_member-put_other, Data, Items, item, null, object, Members, no_members, member, get_item, false≢true, or_cases, or_left, or_right, bytes_eq-Decides, own_names, length_name}
 use Rattle.conf_laws.proofs.Words.places
-use Rattle.conf_laws.proofs.Readings.{only_dynamic}
 
 -- these are the items from place i on
 abbrev pub IsFrom : Items → ℕ → Items → Type 0

@@ -37,9 +37,6 @@ needed_natural k place name low high ms row h most =
 
 -- ---- a number that is told
 
-pub number_told : (o : Option ℕ) (n : ℕ) → is_number o n ≡ true → o ≡ Some n
-number_told o n e = grind (arith, nat_tests, e)
-
 abbrev pub lowest_end : ℤ
 lowest_end = negsuc 9223372036854775807
 

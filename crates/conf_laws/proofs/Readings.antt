@@ -38,14 +38,8 @@ all_joined P (x ∷ xs) ys h k = (h.0, all_joined P xs ys h.1 k)
 
 -- ---- what a look-up says of the property
 
-pub object_there : (o : Option Data) (ms : Members) → option_and_then as_object o ≡ Some ms → o ≡ Some (object ms)
-object_there o ms e = grind (arith, e)
-
 pub byte_object : (o : Option Data) → is_byte o ≡ true → (ms : Members) × (o ≡ Some (object ms))
 byte_object o e = grind (arith, e)
-
-pub word_there : (o : Option Data) (w : List ℕ) → option_and_then as_str o ≡ Some w → o ≡ Some (string w)
-word_there o w e = grind (arith, e)
 
 pub same_natural : (name : List ℕ) (ms : Members) → natural name ms ≡ natural_in name ms
 unfolding natural natural_in as_natural
@@ -62,9 +56,6 @@ only_unsigned c e = grind (arith, e)
 
 pub only_static : (c : Place) → is_static_array c ≡ true → c ≡ places.StaticArray
 only_static c e = grind (arith, e)
-
-pub only_dynamic : (c : Place) → is_dynamic_array c ≡ true → c ≡ places.DynamicArray
-only_dynamic c e = grind (arith, e)
 
 -- what is answered where a test fails
 pub under_no_test : {A : Type 0} (b : Bool) (x y : A) (flaw : Flaw) → cond b (Err flaw) (Ok x) ≡ Ok y → b ≡ false

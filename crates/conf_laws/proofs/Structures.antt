@@ -26,9 +26,6 @@ nest_allowed d t n h e = let nests = h.nests 8 n e in let size = nests.size in l
 
 -- no array
 module _ (ms : Members) (class : Place) (is : class_of ms ≡ Some class) (other : is_static_array class ≡ false) where
-  counted_one : (levels n : ℕ) → elements levels (object ms) ≡ Some n → 1 ≡ n
-  counted_one levels n e = grind (arith, is, other, e)
-
   alone : (t : FieldType) → (chain_of t).lengths ≡ [] → IsConfigLeaf (chain_of t).leaf → IsAllowed (object ms) t
   unfolding elements_of
   alone t none leaf = record {

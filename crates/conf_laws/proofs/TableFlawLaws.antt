@@ -2,7 +2,6 @@
 -- none.
 use Rattle.std.proofs.Common.{IsTrue, codes, ◌≡◌, ◌≢◌, ◌⊎◌, ◌↔◌, ◌+◌, ℕ, zero, suc, Bool, true, false, cond, List, Option, Some, None, is_some, inl, inr, refl, sym, ap, subst, ◌∙◌, [], ◌∷◌, Contains, Ok, Err, arith, ◌++◌, map, Result, unwrap_or}
 use Rattle.conf_laws.proofs.Agreement.{Agrees, nothing_agrees, inside_agrees, behind_agrees, Takes, takes_beside, takes_further, item_agrees, IsFrom, from_start, from_next, item_here}
-use Rattle.conf_laws.proofs.Numbers.{number_told}
 use Rattle.conf_laws.proofs.Readings.{byte_object, some_none, class_told, only_unsigned, only_static, element_bits, by_element, by_found, by_test}
 use Rattle.conf_laws.proofs.Sound.{no_rows, ObjectSound, object_sound, ContentSound, content_sound, flaws_at, property_here, first_flaws, first_item, optional_there}
 use Rattle.conf_laws.proofs.ValueFlawLaws.{IsJudged, then_judged, test_judged, class_word, word_excluded, value_judged, name_judged}
