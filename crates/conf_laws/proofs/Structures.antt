@@ -318,10 +318,6 @@ module _ (k : Known) (place : Place) (before : List (List ℕ)) (entries : item_
       let read : AreRead place before i done (item d ds) rest.0 = record { after = rest.2.after; named = rest.2.named; counted = omega (arith, counted, length-append done ((name, m.0) ∷ [])); types = types } in
       (rest.0, ap (λ x. members_behind done (item x ds)) s.2 ∙ step ∙ rest.1, read)
 
-is_list : (d : Data) → form_of nothing places.Members d ≡ Ok tt → (ds : Items) × (d ≡ array ds)
-unfolding form_of
-is_list d e = grind (arith, e)
-
 no_members_allowed : AreConfigMembers []
 unfolding shown_members IsDistinct
 no_members_allowed = record { types = All-nil (λ m. IsConfigMember m.1); names = All-nil IsPlainName; distinct = tt; few = omega arith }
@@ -333,11 +329,12 @@ module _ (k : Known) (around : Place) {place : Place} (name : List ℕ) {presenc
   IsListed members = AreApart before (shown_of members) × (AreWithin around ms → AreConfigMembers members)
 
   found_says : (d : Data) → optional name ms ≡ Some d → Says (members_behind [] (unwrap_or (as_array d) no_items)) IsListed
-  unfolding shown_members IsDistinct
+  unfolding shown_members IsDistinct form_of
   found_says d is =
       let none : AreNamed before [] (names_beside place) = record { names = All-nil IsPlainName; names_taken = tt; shown = record { before_taken = taken; all_taken = tt; distinct = tt; free = tt } } in
       let sound = (optional_sound k around name (At place) ms d row f is).value in
-      let s = is_list d (sym (form d) ∙ sound.itself) in
+      let formed : form_of nothing places.Members d ≡ Ok tt = sym (form d) ∙ sound.itself in
+      let s : (ds : Items) × (d ≡ array ds) = grind (arith, formed) in
       let all = items_say k place before entries s.0 (names_beside place) 0 [] none (subst (λ x. inner_flaws k (At place) x ≡ []) s.1 sound.inner) in
       let named = all.2.named in
       let counted = all.2.counted in

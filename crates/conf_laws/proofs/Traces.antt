@@ -38,9 +38,6 @@ mapped_only : (clock : Option (List ℕ)) (o : Option IntType) → OnlyIf o IsPl
 unfolding mapped
 mapped_only clock o plain = grind (arith, plain)
 
-plain_or : (o : Option IntType) → OnlyIf o IsPlainUnsigned → IsPlainUnsigned (unwrap_or o number_type)
-plain_or o only = grind (arith, only)
-
 -- the features of an object
 module _ (k : Known) (around : Place) (ms : Members) (f : member_flaws k around ms ≡ []) where
   -- where each object at a place says a type, so does the feature
@@ -63,7 +60,7 @@ module _ (k : Known) (around : Place) (ms : Members) (f : member_flaws k around 
   size_says : (name : List ℕ) → {presence : Presence} → HasRow around name presence (At places.SizeFeature) → Says (size name ms) IsPlainUnsigned
   unfolding size is_position admits_class
   size_says name row =
-      mapped_says (λ x. OnlyIf x IsPlainUnsigned) IsPlainUnsigned (λ t. unwrap_or t number_type) (feature name true number_type ms) plain_or (plain_feature places.SizeFeature name true (refl, only_unsigned) row)
+      mapped_says (λ x. OnlyIf x IsPlainUnsigned) IsPlainUnsigned (λ t. unwrap_or t number_type) (feature name true number_type ms) (λ o only. grind (arith, only)) (plain_feature places.SizeFeature name true (refl, only_unsigned) row)
 
   timestamp_says : (name : List ℕ) (clock : Option (List ℕ)) → {presence : Presence} → HasRow around name presence (At places.Feature) → Says (timestamp name clock ms) (λ x. OnlyIf x (IsOfClock clock))
   unfolding timestamp is_position admits_class
