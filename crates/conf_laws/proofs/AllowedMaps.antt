@@ -5,7 +5,7 @@ use Rattle.std.proofs.Common.{◌≡◌, ℕ, ◌||◌, ◌&&◌, true, List, le
 use Rattle.conf_laws.proofs.Numbers.{range_read, some_size, natural_is_in, alignment_or, needed_natural}
 use Rattle.conf_laws.proofs.Readings.{Says, proved_says, under_no_test, all_joined, same_natural, optional_found, by_found, by_test}
 use Rattle.conf_laws.proofs.Sound.{object_read, HasRow, RowsSound, ContentSound, object_sound, content_sound, first_item, first_entry, held_at, needed_sound, optional_sound, rows_sound, IsWithin, AreWithin, object_within, entry_within, optional_within, all_within, fitting_parts, flaws_in, names_of, sorted_names, names_counted}
-use Rattle.conf_laws.proofs.Words.{IsWhole, IsRange, is_alignment, rows_of, Needed, entries_of, Place, At, WholeOrText, Whole, Text, Content, member_flaws, item_flaws, inside, behind, itself_of, form_of, Known, with_taken, key_fits, ranges_fit, key_of, key_by, names_beside, with_names, range_of, is_inside, inside_of, numbers_in, item_content, leaf_of, whole_or_text, fits, AllAbove, IsInOrder, both_read, is_passed, name_of, is_reserved, plain_name_of, is_printable, Members, Data, array, Items, no_items, item, no_members, member, object, items_len, optional, as_natural, string, members_len, nat_tests, and_parts, or_parts, leb-true, nat_list_cmp_total, tied_itself, All-from_recursion, All-weaker, slice_cmp, list_any, AllByRecursion, bytes_eq, length-map, whole, low, high, ranges_in, labels_in, enumeration, integer, size_of, object_at, properties, LabelsInOrder, lowest, highest, IsRangeOf, IsEnumeration, unused_keywords, used_keywords, IsConfigName, IsPlainName, IsConfigText, IntType, Mapping, clock_type, clocks_in, clock_types, entry_value, entries_in, environment, natural, word, InByteOrder, IsEnvironmentValue, IsClockType, ClockType, EnvironmentEntry, integer_made as made, integer_align as align_of, default_align, counted_ranges, place_of_properties, is_position, own_place}
+use Rattle.conf_laws.proofs.Words.{IsRange, is_alignment, rows_of, Needed, entries_of, Place, At, WholeOrText, Whole, Text, Content, member_flaws, item_flaws, inside, behind, itself_of, form_of, Known, with_taken, key_fits, ranges_fit, key_of, key_by, names_beside, with_names, range_of, is_inside, inside_of, numbers_in, item_content, leaf_of, whole_or_text, fits, AllAbove, IsInOrder, both_read, is_passed, name_of, is_reserved, plain_name_of, is_printable, Members, Data, array, Items, no_items, item, no_members, member, object, items_len, optional, as_natural, string, members_len, nat_tests, and_parts, or_parts, leb-true, nat_list_cmp_total, tied_itself, All-from_recursion, All-weaker, slice_cmp, list_any, AllByRecursion, bytes_eq, length-map, low, high, ranges_in, labels_in, enumeration, integer, size_of, object_at, properties, LabelsInOrder, lowest, highest, IsRangeOf, IsEnumeration, unused_keywords, used_keywords, IsConfigName, IsPlainName, IsConfigText, IntType, Mapping, clock_type, clocks_in, clock_types, entry_value, entries_in, environment, natural, word, InByteOrder, IsEnvironmentValue, IsClockType, ClockType, EnvironmentEntry, integer_made as made, integer_align as align_of, default_align, counted_ranges, place_of_properties, is_position, own_place}
 use Rattle.conf_laws.proofs.Words.places
 
 pub config_name : (name : List ℕ) → name_of name ≡ Ok tt → IsConfigName name

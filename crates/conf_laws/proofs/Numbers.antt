@@ -1,9 +1,9 @@
 -- A whole number that is in its range is a natural number in it; what a range that was read says; and the alignments of fields, where one
 -- that passes no limit is the very number that is read.
-use Rattle.std.proofs.Common.{◌≡◌, ◌≤◌, ℕ, ℤ, pos, negsuc, true, false, List, Option, Some, Ok, nat_le, arith, refl, ap, subst, ◌∙◌, ◌<◌, Bool, int_le, codes, option_and_then, unwrap_or}
+use Rattle.std.proofs.Common.{◌≡◌, ◌≤◌, ℕ, ℤ, pos, negsuc, true, false, List, Some, Ok, nat_le, arith, refl, ap, subst, ◌∙◌, ◌<◌, Bool, int_le, codes, option_and_then, unwrap_or}
 use Rattle.conf_laws.proofs.Readings.{optional_found}
 use Rattle.conf_laws.proofs.Sound.{HasRow, RowsSound, needed_sound}
-use Rattle.conf_laws.proofs.Words.{IsWhole, IsRange, Place, Whole, Needed, is_null, itself_of, Known, leaf_of, whole_from, is_power_of_two, divides, numbers_of, end_of, pair_of, single_of, range_of, is_number, index, whole_of, at, both_read, read_there, ok_same, as_natural, Data, Members, array, Items, no_items, item, nat_tests, is_alignment, alignment, natural, lowest, highest, integer_align, default_align, size_of, align_of}
+use Rattle.conf_laws.proofs.Words.{IsWhole, IsRange, Place, Whole, Needed, is_null, itself_of, Known, leaf_of, whole_from, is_power_of_two, divides, numbers_of, end_of, pair_of, single_of, range_of, index, whole_of, at, both_read, read_there, ok_same, as_natural, Data, Members, array, Items, no_items, item, nat_tests, is_alignment, alignment, natural, lowest, highest, integer_align, default_align, size_of, align_of}
 
 -- a whole number that was read, and that it is between its bounds
 pub whole_read : (low high : ℤ) (d : Data) (z : ℤ) → whole_of low high d ≡ Ok z → IsWhole d z × (int_le low z ≡ true) × (int_le z high ≡ true)

@@ -1,7 +1,7 @@
 -- What small steps and readings say that went well; what is computed from the first property of a name; and what holds of a field type
 -- where it holds of its element.
 use Rattle.std.proofs.Common.{arith, ◌≡◌, ℕ, Bool, true, false, List, Option, Some, None, is_some, refl, ap, [], ◌∷◌, ◌++◌, cond, Ok, Err, option_map, option_and_then, codes}
-use Rattle.conf_laws.proofs.Words.{is_byte, is_null, HasMember, Place, is_unsigned_integer, is_static_array, is_dynamic_array, times, elements, elements_in_array, natural_in, has_bits, element_has_bits, Flaw, given, optional, proved, as_natural, Data, string, object, Members, no_members, member, get_member, as_object, as_str, nat_list_cmp_total, tied_itself, is_eq-slice_cmp, bytes_eq-Decides, AllByRecursion, option_map_or, bytes_eq, field_type, element, natural}
+use Rattle.conf_laws.proofs.Words.{is_byte, is_null, HasMember, Place, is_unsigned_integer, is_static_array, times, elements, elements_in_array, natural_in, has_bits, element_has_bits, Flaw, optional, proved, as_natural, Data, object, Members, no_members, member, get_member, nat_list_cmp_total, tied_itself, is_eq-slice_cmp, bytes_eq-Decides, AllByRecursion, option_map_or, bytes_eq, field_type, element, natural}
 use Rattle.conf_laws.proofs.Words.places
 
 pub some_none : {A P : Type 0} (o : Option A) (x : A) → o ≡ Some x → o ≡ None → P

@@ -1,7 +1,7 @@
 -- Field types, the members of a structure, structures and the extra members of a packet context that have no flaw say something; and where
 -- they pass no limit, that is what the rules allow: no array is empty where it stands in a dynamic array, static arrays nest as deep as the
 -- rules allow, and the names that members take are apart, also from names that were taken before.
-use Rattle.std.proofs.Common.{◌<◌, ◌≡◌, ◌%◌, ◌==◌, ◌&&◌, ℕ, Bool, true, false, cond, Some, nat_lt, nat_le, leb-true, arith, refl, sym, ap, subst, Option, Ok, ◌∙◌, ◌+◌, List, [], ◌∷◌, ◌++◌, length, All, length-append, append_assoc, ◌⊎◌, suc, inl, inr, codes, unwrap_or, option_and_then, zero, ◌*◌, ◌≤◌, max}
+use Rattle.std.proofs.Common.{◌<◌, ◌≡◌, ◌%◌, ◌==◌, ◌&&◌, ℕ, Bool, true, false, cond, Some, nat_lt, nat_le, leb-true, arith, refl, sym, ap, subst, Option, Ok, ◌∙◌, ◌+◌, List, [], ◌∷◌, ◌++◌, length, All, length-append, append_assoc, ◌⊎◌, suc, inl, inr, codes, unwrap_or, option_and_then, zero, ◌*◌, ◌≤◌}
 use Rattle.conf_laws.proofs.Agreement.{taken_put}
 use Rattle.conf_laws.proofs.AllowedMaps.{plain_name, integer_says, enumeration_says}
 use Rattle.conf_laws.proofs.Numbers.{alignment_or, needed_natural}

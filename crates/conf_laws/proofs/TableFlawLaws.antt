@@ -5,7 +5,7 @@ use Rattle.conf_laws.proofs.Agreement.{Agrees, nothing_agrees, inside_agrees, be
 use Rattle.conf_laws.proofs.Readings.{byte_object, some_none, class_told, only_unsigned, only_static, element_bits, by_element, by_found, by_test}
 use Rattle.conf_laws.proofs.Sound.{no_rows, ObjectSound, object_sound, ContentSound, content_sound, flaws_at, property_here, first_flaws, first_item, optional_there}
 use Rattle.conf_laws.proofs.ValueFlawLaws.{IsJudged, then_judged, test_judged, class_word, word_excluded, value_judged, name_judged}
-use Rattle.conf_laws.proofs.Words.{both_read, refused_here_or_next, IsTaken, is_taken, HasNumber, Around, Parts, HasBehind, member_of, item_of, IsPropertyOf, IsLeftOut, IsNoClassAt, HasNotItsRows, IsByte, IsIdentifier, HasNoBits, IsNoShapeAt, IsFlawOf, IsNoValueOf, IsNoNameAt, words_of_classes, class_words, class_in, admits_class, presence_under, Told, rows_of, Place, At, Content, Presence, class_named, class_of, class_said, other_class, resolved_content, left_out, is_left_out, admitted, class_rule, row_there, rows_there, orders_there, all_there, told_by, property_flaws, inner_flaws, item_flaws, member_flaws, content_flaws, configuration_flaws, itself_of, Known, nothing, inside, behind, with_taken, key_of, names_beside, with_names, natural_in, is_position, place_of_properties, item_content, is_number, is_unsigned_integer, is_static_array, is_eight, is_byte, is_identifier, has_bits, shape_of, Flaw, key, here, within, index, ◌>>=◌, at, wanted, needed, optional, given, text_of, HasMember, refusal, WrongKind, OutOfRange, Missing, Unknown, lacks_refused, found_there, IsNoWordOf, as_natural, Data, null, object, Members, array, Items, no_items, item, no_members, member, get_member, get_item, as_str, nat_tests, true≢false, false≢true, All-nil, All-cons, All-map, All-append, All-weaker, All-contains, bytes_eq-Decides, All, ⊤}
+use Rattle.conf_laws.proofs.Words.{both_read, refused_here_or_next, IsTaken, is_taken, HasNumber, Around, Parts, HasBehind, member_of, item_of, IsPropertyOf, IsLeftOut, IsNoClassAt, HasNotItsRows, IsByte, IsIdentifier, HasNoBits, IsNoShapeAt, IsFlawOf, IsNoValueOf, IsNoNameAt, words_of_classes, class_words, class_in, admits_class, presence_under, Told, rows_of, Place, At, Content, Presence, class_named, class_of, class_said, other_class, resolved_content, left_out, is_left_out, admitted, class_rule, row_there, rows_there, orders_there, all_there, told_by, property_flaws, inner_flaws, item_flaws, member_flaws, content_flaws, configuration_flaws, itself_of, Known, nothing, inside, behind, with_taken, key_of, names_beside, with_names, natural_in, is_position, place_of_properties, item_content, is_number, is_unsigned_integer, is_static_array, is_eight, is_byte, is_identifier, has_bits, shape_of, Flaw, key, here, within, index, ◌>>=◌, at, wanted, needed, optional, text_of, HasMember, refusal, WrongKind, OutOfRange, Missing, Unknown, lacks_refused, found_there, IsNoWordOf, as_natural, Data, null, object, Members, array, Items, no_items, item, no_members, member, get_member, get_item, as_str, nat_tests, true≢false, false≢true, All-nil, All-cons, All-map, All-append, All-weaker, All-contains, bytes_eq-Decides, All, ⊤}
 use Rattle.conf_laws.proofs.Words.places
 use Rattle.conf_laws.proofs.Words.contents
 use Rattle.conf_laws.proofs.Words.presences

@@ -1,12 +1,12 @@
 -- What a configuration says that has no flaw, from its features to the trace around them; and that what it says is what the rules allow,
 -- where it also passes no limit, its names are in order, and it keeps the rules over the whole.
-use Rattle.std.proofs.Common.{◌≡◌, ℕ, ◌&&◌, Bool, true, false, cond, List, Option, Some, None, is_some, IsSome, refl, sym, ap, subst, ◌∙◌, append_assoc, pos, ◌<◌, ◌^◌, [], map, ◌∷◌, ◌++◌, Ok, arith, nat_le, codes, option_map, option_and_then, unwrap_or}
+use Rattle.std.proofs.Common.{◌≡◌, ℕ, ◌&&◌, Bool, true, false, List, Option, Some, is_some, IsSome, refl, sym, ap, subst, ◌∙◌, append_assoc, pos, ◌<◌, ◌^◌, [], map, ◌∷◌, ◌++◌, Ok, arith, nat_le, codes, option_map, option_and_then, unwrap_or}
 use Rattle.conf_laws.proofs.AllowedMaps.{IsMade, integer_says, config_name, AreAllowed, AreUnder, none_under, one_under, map_allowed, clocks_allowed, IsEnvironment, environment_allowed}
 use Rattle.conf_laws.proofs.Numbers.{natural_is_in}
 use Rattle.conf_laws.proofs.Readings.{byte_object, Says, some_same, mapped_says, same_natural, class_told, only_unsigned, only_static, optional_found, by_found}
 use Rattle.conf_laws.proofs.Sound.{IsMapOf, TypeSound, type_sound, HasRow, RowsSound, needed_sound, optional_sound, ObjectSound, ContentSound, object_sound, content_sound, held_at, first_entry, needed_object, IsWithin, AreWithin, is_within, object_within, optional_within, entry_within, all_within, flaws_in, names_of, IsOwn}
 use Rattle.conf_laws.proofs.Structures.{structure_says, extras_says}
-use Rattle.conf_laws.proofs.Words.{nat_tests, is_passed, rows_of, Presence, admits_class, Place, At, Level, class_of, Known, inside, behind, nothing, members_or_none, natural_in, is_position, form_of, place_of_properties, own_place, shape_of, is_identifier, is_byte, is_unsigned_integer, is_number, is_eight, at_most, entries_of, key_of, key_by, itself_of, leaf_of, level, whole_from, member_flaws, configuration_flaws, configuration_limits, Ascends, All-map, IsStreamType, IsEventType, IsConfig, IsPlainName, ClockType, Draft, KeepsStreamRules, KeepsRules, RecordHasBits, optional, as_natural, Data, boolean, object, Members, no_members, members_len, get_member, member, as_object, and_parts, same_Some, append-nil, option_map_or, alignment_of, alignment, number_type, magic_type, byte_type, feature_of, feature, byte_of, identifier, size, mapped, timestamp, header, context, event_header, integer, size_of, default_align, integer_align as align_of, natural, object_at as object_named, properties, said_behind, word, OnlyIf, IsPlainUnsigned, ContextFeatures, EventFeatures, HeaderFeatures, IntType, environment, level_of, event_type, event_types, clock_of, stream_type, stream_types, clock_types, draft_with, draft_of_type, draft_of_trace, draft_of_root, draft_of, IsConfigName, Config, EnvironmentEntry, EventType, StreamType}
+use Rattle.conf_laws.proofs.Words.{nat_tests, is_passed, rows_of, Presence, admits_class, Place, At, Level, class_of, Known, inside, behind, nothing, natural_in, is_position, form_of, place_of_properties, own_place, shape_of, is_identifier, is_byte, is_unsigned_integer, is_number, is_eight, at_most, entries_of, key_of, key_by, itself_of, leaf_of, level, whole_from, member_flaws, configuration_flaws, configuration_limits, Ascends, All-map, IsStreamType, IsEventType, IsConfig, IsPlainName, ClockType, Draft, KeepsStreamRules, KeepsRules, RecordHasBits, optional, as_natural, Data, boolean, object, Members, no_members, members_len, get_member, member, as_object, and_parts, same_Some, append-nil, option_map_or, alignment_of, alignment, number_type, magic_type, byte_type, feature_of, feature, byte_of, identifier, size, mapped, timestamp, header, context, event_header, integer, size_of, default_align, integer_align as align_of, natural, object_at as object_named, properties, said_behind, word, OnlyIf, IsPlainUnsigned, ContextFeatures, EventFeatures, HeaderFeatures, IntType, environment, level_of, event_type, event_types, clock_of, stream_type, stream_types, clock_types, draft_with, draft_of_type, draft_of_trace, draft_of_root, draft_of, IsConfigName, Config, EnvironmentEntry, EventType, StreamType}
 use Rattle.conf_laws.proofs.Words.places
 
 -- ---- unsigned integers

@@ -3,7 +3,7 @@ use Rattle.std.proofs.Common.{IsTrue, ◌≡◌, ◌≢◌, ◌⊎◌, ◌↔◌
 use Rattle.conf_laws.proofs.Agreement.{Agrees, dynamic_told, told_dynamic}
 use Rattle.conf_laws.proofs.Numbers.{whole_read, lowest_end, highest_end, IsRead, range_read, some_size}
 use Rattle.conf_laws.proofs.Readings.{some_none, some_same, by_found, by_test, under_no_test}
-use Rattle.conf_laws.proofs.Words.{false_from_ne_true, Around, enumeration_around, HasNumber, HasBits, IsTaken, IsPowerOfTwo, IsNoPowerOfTwo, IsNoLevel, IsNoWholeOrText, IsNoDefault, IsWhole, IsPair, IsRange, IsNoRange, IsNoSomeList, IsNoSomeObject, IsNoEntry, IsNoFeature, IsNoSizeFeature, IsNoneAt, words_of_classes, IsNoValueOf, IsNoMemberName, IsNoLabel, IsNoKey, IsNoNameAt, ClassWord, class_words, class_in, entries_of, words_of, Place, Content, Entries, Keys, any_object, feature_form as feature, size_feature, form_of, itself_of, Known, only_if, whole_from, is_power_of_two, power_of, whole_or_text, level, leaf_of, is_dynamic, is_taken, free_of, key_by, key_of, all_numbers, natural_in, numbers_of, numbers_in, end_of, pair_of, range_of, is_inside, inside_of, Flaw, PathPart, index, here, within, single_of, ◌>>=◌, at, wanted, text_of, flag_of, whole_of, WrongKind, OutOfRange, ReservedName, NameClash, refused_here_or_next, none_refused, whole_refused, control_there, name_refused, plain_name_refused, word_listed as listed, both_read, IsNoObject, IsNoList, IsNoText, IsNoFlag, IsNoWhole, IsNoConfigText, IsNoUuid, IsNoWordOf, IsControl, IsNoName, IsNoPlainName, name_of, is_reserved, plain_name_of, is_printable, uuid_in, Data, array, Items, no_items, item, Members, no_members, member, items_len, members_len, as_object, as_array, as_str, as_bool, as_number, as_integer, pow_mono, true≢false, false≢true, and_from, option_map_or, or_parts, cases_lt, ltb-false, agree_below_at, list_any_at, list_all_at, bytes_eq-Decides, list_any, bytes_eq, lowest, highest, length_name, unused_keywords, used_keywords, divisors_of_pow, parsed, le-true, le-false, lt_out, below_in, nat_tests, ⊤}
+use Rattle.conf_laws.proofs.Words.{false_from_ne_true, Around, enumeration_around, HasBits, IsTaken, IsPowerOfTwo, IsNoPowerOfTwo, IsNoLevel, IsNoWholeOrText, IsNoDefault, IsWhole, IsPair, IsRange, IsNoRange, IsNoSomeList, IsNoSomeObject, IsNoEntry, IsNoFeature, IsNoSizeFeature, IsNoneAt, words_of_classes, IsNoValueOf, IsNoMemberName, IsNoLabel, IsNoKey, IsNoNameAt, ClassWord, class_words, class_in, entries_of, words_of, Place, Content, Entries, Keys, any_object, feature_form as feature, size_feature, form_of, itself_of, Known, only_if, whole_from, is_power_of_two, power_of, whole_or_text, level, leaf_of, is_dynamic, is_taken, free_of, key_by, key_of, all_numbers, natural_in, numbers_of, numbers_in, end_of, pair_of, range_of, is_inside, inside_of, Flaw, PathPart, index, here, within, single_of, ◌>>=◌, at, wanted, text_of, flag_of, whole_of, WrongKind, OutOfRange, ReservedName, NameClash, refused_here_or_next, none_refused, whole_refused, control_there, name_refused, plain_name_refused, word_listed as listed, both_read, IsNoObject, IsNoList, IsNoText, IsNoFlag, IsNoWhole, IsNoConfigText, IsNoUuid, IsNoWordOf, IsControl, IsNoName, IsNoPlainName, name_of, is_reserved, plain_name_of, is_printable, uuid_in, Data, array, Items, no_items, item, Members, no_members, member, items_len, members_len, as_object, as_array, as_str, as_bool, as_number, as_integer, pow_mono, true≢false, false≢true, and_from, option_map_or, or_parts, cases_lt, ltb-false, agree_below_at, list_any_at, list_all_at, bytes_eq-Decides, list_any, bytes_eq, lowest, highest, length_name, unused_keywords, used_keywords, divisors_of_pow, parsed, le-true, le-false, lt_out, below_in, nat_tests, ⊤}
 use Rattle.conf_laws.proofs.Words.places
 use Rattle.conf_laws.proofs.Words.contents
 use Rattle.conf_laws.proofs.Words.keys

@@ -8,7 +8,7 @@ pub use Rattle.std.proofs.lemmas.{List.{append-nil, length-map, map-append}, Opt
 pub use Rattle.std.specs.{Cmp.Lexicographic.slice_cmp, List.{All, AllByRecursion, list_any}, Option.option_map_or, Prelude.⊤, Str.bytes_eq}
 unfoldable pub use Rattle.std.specs.{List.IsDistinct, List.Sorted.IsStrictlySortedBy}
 pub use Rattle.conf_tree.specs.{Flaw.{Flaw, Place as PathPart, here, index, key, within}, Order.{AllAbove, Ascends, IsInOrder, ItemsAscend, MembersAscend}}
-pub use Rattle.conf_tree.specs.{Reading.{at, flag_of, given, needed, optional, text_of, wanted, ◌>>=◌}, Walk.{HasMember, refusal}}
+pub use Rattle.conf_tree.specs.{Reading.{at, flag_of, needed, optional, text_of, wanted, ◌>>=◌}, Walk.{HasMember, refusal}}
 pub use Rattle.conf_tree.specs.declared.fault_kind.FaultKind.{FaultKind, TheVariants.{Limit, Missing, NameClash, OutOfRange, ReservedName, Unknown, WrongKind}}
 unfoldable pub use Rattle.conf_tree.specs.Reading.{whole_of}
 pub use Rattle.conf_values.proofs.LeafFlawLaws.{control_there, found_there, lacks_refused, listed as word_listed, name_refused, none_refused, plain_name_refused}
@@ -33,7 +33,7 @@ unfoldable pub use Rattle.conf_judge.specs.Names.{free_of, is_dynamic, key_by, k
 unfoldable pub use Rattle.conf_judge.specs.Numbers.{inside_of, is_inside, natural_in, numbers_in, numbers_of, pair_of, range_of}
 unfoldable pub use Rattle.conf_judge.specs.{Places.{is_position, item_content, own_place, place_of_properties}, Shapes.{is_identifier, shape_of}}
 pub use Rattle.conf_judge.specs.Flaws.{admitted, configuration_flaws, content_flaws, inner_flaws, is_needed, is_null, item_flaws, left_out, member_flaws}
-pub use Rattle.conf_judge.specs.{Flaws.{property_flaws, row_there, rows_there, told_by}, Known.{Known, is_true, members_or_none, nothing, says_default, with_taken}}
+pub use Rattle.conf_judge.specs.{Flaws.{property_flaws, row_there, rows_there, told_by}, Known.{Known, is_true, nothing, says_default, with_taken}}
 pub use Rattle.conf_judge.specs.Limits.{at_least_one, at_most, bytes_fit, configuration_limits, content_limits, count_of, divides, elements, elements_in_array, inner_limits}
 pub use Rattle.conf_judge.specs.Limits.{item_limits, member_limits, ranges_in as counted_ranges, times, within_limit}
 pub use Rattle.conf_judge.specs.{Names.{class_of_member, is_taken, take, take_all, take_each, with_names}, Numbers.{all_numbers, end_of, single_of}}
@@ -44,7 +44,7 @@ unfoldable pub use Rattle.conf_draft.specs.{FieldTypes.{length_of, of_class}, In
 unfoldable pub use Rattle.conf_draft.specs.{Lookups.{list, natural, object as object_at, properties, word}, Members.{behind as behind_done, member_type}}
 unfoldable pub use Rattle.conf_draft.specs.{Streams.{stream_type, stream_types}, Structures.{align_of, extra_members, listed, made, structure, structure_of}}
 unfoldable pub use Rattle.conf_draft.specs.Traces.{asks_number, draft_of_root, draft_of_trace, draft_of_type}
-pub use Rattle.conf_draft.specs.{Alignments.{alignment_of, is_alignment}, Clocks.clocks_in, Enumerations.{high, labels_in, low, ranges_in, whole}}
+pub use Rattle.conf_draft.specs.{Alignments.{alignment_of, is_alignment}, Clocks.clocks_in, Enumerations.{high, labels_in, low, ranges_in}}
 pub use Rattle.conf_draft.specs.{Environments.{entries_in, entry_value}, Events.level_of, Features.{byte_type, feature_of, magic_type, number_type}}
 pub use Rattle.conf_draft.specs.{FieldTypes.{element, field_type}, Integers.default_align, Lookups.said_behind, Members.{member_of as member_said, members_behind}}
 pub use Rattle.conf_draft.specs.{Streams.clock_of, Structures.align_for, Traces.{draft_of, draft_with}, declared.draft.Draft.Draft}
