@@ -1,4 +1,4 @@
--- A value without a flaw, whose names are all of resolved aliases, is ready to be resolved.
+-- What a value without a flaw is, and what is told of each flaw of a value.
 use Rattle.std.proofs.Common.{cond, ◌≡◌, ◌&&◌, ◌++◌, inl, inr, ℕ, suc, List, [], ◌∷◌, map, Option, Some, None, is_some, Bool, true, false, true≢false, refl, sym, ap, ◌∙◌, subst, ◌<◌, ◌+◌, ◌⊎◌, Err, arith, ◌||◌, Ok, nat_cmp}
 use Rattle.std.proofs.lemmas.Bool.{or_cases, and_parts, cases_Bool, or_parts, and_left, and_right, and_from}
 use Rattle.std.specs.{Prelude.⊤, Borrow.Bor, BTreeMap.{is_at, insert_entry}, Cmp.Lexicographic.slice_cmp, Map.lookup}
@@ -10,7 +10,7 @@ use Rattle.conf_table.specs.declared.place.Place.{Place}
 use Rattle.conf_table.specs.declared.place.Place.TheVariants as places
 use Rattle.conf_inherit.specs.{FieldPlaces.{place_under, place_of_items, names_alias, names_member_type, lists_members, is_entry}, Names.{entries_of, NoClash}}
 use Rattle.conf_inherit.specs.Flaws.{is_wrong, is_no_entry, is_no_member, is_unknown, own_flaws, base_flaws, inner_flaws, item_flaws, member_flaws, flaws, mark, mark_names}
-use Rattle.conf_inherit.specs.{Ready.{Names, IsReady, AreReady, HasReady}, Named.{all_named, all_named_in_items, all_named_in_members, has}}
+use Rattle.conf_inherit.specs.{Named.{Names, all_named, all_named_in_items, all_named_in_members, has}}
 use Rattle.conf_inherit.specs.{Faults.{Leads, HasEntry, FlawHolds}, Circle.{Mentions, MentionsInItems, MentionsInMembers}, SeenNames.members_named}
 use Rattle.conf_inherit.proofs.{FieldPlaceLemmas.{list_place, entry_list}, LayingLemmas.{get_other, same, other, meets, stands}}
 
@@ -46,7 +46,7 @@ unfolding own_flaws
 own_sound al s taken v h = let none = none_refused (is_wrong s v) (is_unknown al s v) taken h in record { right = none.0; known = none.1; free = none.2 }
 
 -- a name that is asked passes a test that every name in a value passes
-passes_text : (p : List ℕ → Bool) (s : Place) (n : List ℕ) → Names s → all_named p s (string n) ≡ true → p n ≡ true
+pub passes_text : (p : List ℕ → Bool) (s : Place) (n : List ℕ) → Names s → all_named p s (string n) ≡ true → p n ≡ true
 passes_text p s n (inl is) h = rw is at h
 passes_text p s n (inr is) h = elim (cases_Bool (names_alias s)) [ inl e ↦ rw e at h | inr e ↦ rw (e, is) at h ]
 
@@ -94,30 +94,15 @@ module _ (al : Members) (rs : Option Members) where
       let (own, inner) = joined_empty _ _ (subst (λ x. flaws al rs x false seen v ≡ []) place mine) in
       apart_at s i seen v es (single_entry v (own_sound al places.Entry false v own).right) inner (apart_entries s (suc i) (mark v seen) es place later)
 
-  module _ (done : Members) where
-    ready_text : (s : Place) (n : List ℕ) → all_named (has done) s (string n) ≡ true → Names s → (r : Data) × (get_member n done ≡ Some r)
-    ready_text s n h names = some_of (get_member n done) (passes_text (has done) s n names h)
+-- a value has no flaw of its own, nor one inside
+pub record SoundAt (al : Members) (s : Place) (v : Data) : Type 0 where
+  pub taken : Bool
+  pub seen : Members
+  pub sound : flaws al None s taken seen v ≡ []
 
-    mutual
-      pub ready : (v : Data) (s : Place) (taken : Bool) (seen : Members) → flaws al rs s taken seen v ≡ [] → all_named (has done) s v ≡ true → IsReady done s v
-      ready (string n) s taken seen h named = ready_text s n named
-      ready (array es) s taken seen h named = let items = (joined_empty _ _ h).1 in ((λ is. (apart_entries s 0 no_members es (list_place s is) items).distinct), ready_items es s 0 no_members items named)
-      ready (object ms) s taken seen h named = ready_members ms s seen (joined_empty _ _ h).1 named
-      ready _ s taken seen h named = tt
-
-      ready_items : (es : Items) (s : Place) (i : ℕ) (seen : Members) → item_flaws al rs s i seen es ≡ [] → all_named_in_items (has done) (place_of_items s) es ≡ true → AreReady done (place_of_items s) es
-      ready_items no_items s i seen h named = tt
-      ready_items (item v es) s i seen h named =
-          let (mine, later) = part_empty (within (index i)) _ _ h in
-          let parts = and_parts (all_named (has done) (place_of_items s) v) (all_named_in_items (has done) (place_of_items s) es) named in
-          (ready v (place_of_items s) false seen mine parts.0, ready_items es s (suc i) (mark v seen) later parts.1)
-
-      ready_members : (ms : Members) (s : Place) (seen : Members) → member_flaws al rs s seen ms ≡ [] → all_named_in_members (has done) s ms ≡ true → HasReady done s ms
-      ready_members no_members s seen h named = tt
-      ready_members (member k d ms) s seen h named =
-          let (mine, later) = part_empty (within (key k)) _ _ h in
-          let parts = and_parts (all_named (has done) (place_under s k) d) (all_named_in_members (has done) s ms) named in
-          (ready d (place_under s k) _ no_members (joined_empty _ _ mine).0 parts.0, ready_members ms s seen later parts.1)
+-- so the entries of a members list have names of their own
+pub sound_entries : (al : Members) (s : Place) (es : Items) → lists_members s ≡ true → SoundAt al s (array es) → NoClash (entries_of es)
+sound_entries al s es is h = (apart_entries al None s 0 no_members es (list_place s is) (joined_empty _ _ h.sound).1).distinct
 
 -- Each flaw that is listed holds at its path.
 

@@ -3,12 +3,12 @@ use Rattle.std.proofs.Common.{String, Global, string_cmp, string_bytes, ◌⊎�
 use Rattle.std.proofs.{lemmas.{Bool.{cases_Bool, or_parts, false_from_ne_true}, Option.same_Some}, lemmas.List.Folds.list_any-append, lemmas.Cmp.{nat_list_cmp_total, tied_itself}}
 use Rattle.std.proofs.{lemmas.Map.Text.is_eq-slice_cmp, lemmas.Slice.Eq.bytes_eq-Decides}
 use Rattle.std.specs.{Cmp.Lexicographic.slice_cmp, Ordering.ordering_reverse, List.{list_any, AllByRecursion}, List.Sorted.IsStrictlySortedBy, Map.keys_of}
-use Rattle.serde_json.specs.{Data.{Data, Members, no_members, member, array, Items, put, object, no_items, item}, Find.{get_member, get}}
+use Rattle.serde_json.specs.{Data.{Data, Members, no_members, member, Items, put, object, no_items, item}, Find.{get_member, get}}
 use Rattle.serde_json.proofs.Views.{Entry, get_member-put, get_member-put_other}
 use Rattle.serde_json.specs.{View.{view, items_view, members_view}, declared.value.Value.Value}
-use Rattle.conf_inherit.specs.Names.{AllAbove, IsInOrder, join_items, map_items, names_of, join_members, NoClash, properties_of, items_in, entries_of, new_names, entry_values, member_names}
-use Rattle.conf_inherit.specs.{FieldPlaces.{place_under, is_base_name, lists_members}, Looks.{base_of, Entries, no_entry, an_entry}}
-use Rattle.conf_inherit.specs.Laying.{items_below, lay, lay_base, lay_members, lay_over, lay_new, has_entry, lay_new_member, lay_over_entry, lay_over_member, lay_new_entry}
+use Rattle.conf_inherit.specs.Names.{AllAbove, IsInOrder, join_items, names_of, join_members, NoClash, properties_of, items_in, entries_of, new_names, entry_values, member_names}
+use Rattle.conf_inherit.specs.{FieldPlaces.{place_under, is_base_name}, Looks.{base_of, Entries, no_entry, an_entry}}
+use Rattle.conf_inherit.specs.Laying.{lay, lay_base, lay_members, lay_over, lay_new, has_entry, lay_new_member, lay_over_entry, lay_over_member, lay_new_entry}
 use Rattle.conf_table.specs.declared.place.Place.{Place}
 use Rattle.conf_table.specs.declared.place.Place.TheVariants as places
 use Rattle.conf_tree.specs.Walk.{HasMember}
@@ -135,10 +135,6 @@ lay_base-heir done s (member k d ms) base b h = elim (cases_Bool (is_base_name s
   | inr is ↦ rw is (lay_base-heir done s ms base b (rw is at h))
 ]
 
-pub lay_entries : (done : Members) (s : Place) (es : Items) (base : Option Data) → lists_members s ≡ true
-    → lay done s (array es) base ≡ array (join_items (map_items (λ b. lay_over done es b) (items_below base)) (lay_new done es (items_below base)))
-lay_entries done s es base is = rw is refl
-
 pub in_order_lay : (done : Members) (s : Place) (ms base : Members) → IsInOrder base → IsInOrder (lay_members done s ms base)
 in_order_lay done s no_members base h = h
 in_order_lay done s (member k d ms) base h = elim (cases_Bool (is_base_name s k)) [
@@ -204,11 +200,6 @@ has_name n (member l d ms) = elim (meets n l) [
 names_joined : (a more : Members) → names_of (join_members a more) ≡ names_of a ++ names_of more
 names_joined no_members more = refl
 names_joined (member l d a) more = ap (λ ns. l ∷ ns) (names_joined a more)
-
--- an entry that the base has not comes before the later new ones
-pub new_member_fresh : (done : Members) (n : List ℕ) (d : Data) (ms : Members) (seen rest : Items) → has_entry n seen ≡ false
-    → lay_new_member done (member n d ms) seen rest ≡ item (object (member n (lay done places.Member d None) no_members)) (lay_new_member done ms seen rest)
-new_member_fresh done n d ms seen rest h = rw h refl
 
 -- a property that is no base goes over the base's
 pub lay_members-first : (done : Members) (s : Place) (n : List ℕ) (d : Data) (ms base : Members) → is_base_name s n ≡ false
@@ -297,14 +288,6 @@ pub all_joined : (P : List ℕ → Data → Type 0) (a b : Members) → AllEntri
 all_joined P no_members b h i = i
 all_joined P (member k d a) b h i = (h.0, all_joined P a b h.1 i)
 
--- what holds of each holds of what a name finds
-pub entry_found : (P : List ℕ → Data → Type 0) (ms : Members) → AllEntries P ms → (k : List ℕ) (w : Data) → get_member k ms ≡ Some w → P k w
-entry_found P no_members each k w h = cc
-entry_found P (member l d ms) each k w h = elim (meets k l) [
-  | same e ↦ subst (λ x. P x w) (sym e) (subst (P l) (same_Some d w (sym (get_same k l d ms e) ∙ h)) each.0)
-  | other apart ↦ entry_found P ms each.1 k w (sym (get_other k l d ms apart) ∙ h)
-]
-
 pub each_has : (P : List ℕ → Data → Type 0) (ms : Members) (k : List ℕ) (d : Data) → AllEntries P ms → HasMember k d ms → P k d
 each_has P no_members k d each there = absurd there
 each_has P (member l e ms) k d each (inl one) = subst (λ x. P x d) (sym one.0) (subst (P l) (sym one.1) each.0)
@@ -313,6 +296,10 @@ each_has P (member l e ms) k d each (inr later) = each_has P ms k d each.1 later
 pub has_found : (k : List ℕ) (d : Data) (ms : Members) → get_member k ms ≡ Some d → HasMember k d ms
 has_found k d no_members h = cc
 has_found k d (member l e ms) h = elim (meets k l) [ same f ↦ inl (f, same_Some d e (sym h ∙ get_same k l e ms f)) | other apart ↦ inr (has_found k d ms (sym (get_other k l e ms apart) ∙ h)) ]
+
+-- what holds of each holds of what a name finds
+pub entry_found : (P : List ℕ → Data → Type 0) (ms : Members) → AllEntries P ms → (k : List ℕ) (w : Data) → get_member k ms ≡ Some w → P k w
+entry_found P ms each k w h = each_has P ms k w each (has_found k w ms h)
 
 -- without a clash, each entry is what its name finds
 pub found_each : (ms : Members) → NoClash ms → AllEntries (λ k d. get_member k ms ≡ Some d) ms

@@ -1,19 +1,20 @@
 -- A value laid over what stands for other values is looked up among itself and those values.
-use Rattle.std.proofs.Common.{◌≡◌, ℕ, List, [], ◌∷◌, Option, Some, None, Bool, true, false, refl, sym, ap, ◌∙◌, subst, if◌then◌else◌, true≢false, inl, inr, bytes_eq}
-use Rattle.std.proofs.lemmas.{Bool.{cases_Bool}, Option.same_Some}
+use Rattle.std.proofs.Common.{◌≡◌, ℕ, suc, List, [], ◌∷◌, Option, Some, None, Bool, true, false, refl, sym, ap, ◌∙◌, subst, if◌then◌else◌, true≢false, inl, inr, bytes_eq}
+use Rattle.std.proofs.lemmas.{Bool.{and_parts, cases_Bool}, Option.same_Some}
 use Rattle.std.specs.List.{list_any}
 use Rattle.serde_json.specs.{Data.{Data, string, array, object, Items, no_items, item, Members, no_members, member}, Find.get_member}
 use Rattle.conf_table.specs.declared.place.Place.{Place}
 use Rattle.conf_table.specs.declared.place.Place.TheVariants as places
-use Rattle.conf_inherit.specs.FieldPlaces.{place_under, is_base_name, lists_members, names_alias, names_member_type, field_type_name}
+use Rattle.conf_inherit.specs.FieldPlaces.{place_under, place_of_items, is_base_name, lists_members, names_alias, names_member_type, field_type_name}
 use Rattle.conf_inherit.specs.Laying.{lay, has_entry, lay_base, lay_members, lay_over, lay_over_member, lay_new, lay_new_member, members_below, lay_text}
 use Rattle.conf_inherit.specs.Looks.{Chain, Looks, looks, Entries, no_entry, an_entry, base_of, if_objects, values_at, AreResolved, nothing, alias, member_alias, heir, own, a_list, plain, Shows, a_scalar, an_object, the_members, a_join, if_lists, IsPlain}
 use Rattle.conf_inherit.specs.Names.{NoClash, properties_of, items_in, entries_of, entry_values, join_items, map_items, IsInOrder, names_of, new_names, cons_some, values_in, member_names, joined}
-use Rattle.conf_inherit.specs.Ready.{IsReady, AreReady, HasReady, Names}
+use Rattle.conf_inherit.specs.{Flaws.{flaws, item_flaws, member_flaws, mark}, Named.{Names, all_named, all_named_in_items, all_named_in_members, has}}
 use Rattle.conf_inherit.proofs.LayingLemmas.{cases_Option, has_found, each_has, Meets, same, other, meets, get_other, get_same, lay_base-own, lay_base-heir, in_order_lay, lay_members-base, lay_members-absent, lay_members-found, AllEntries, all_along, over_entries, over_found, new_entries, entry_found, all_joined, has_entry_names, over_absent, entry_names, entries_joined, found_each, no_values, some_is_none}
 use Rattle.conf_inherit.proofs.SizeLemmas.{NoLarger, NoLargerItems, as_large, as_large_items, items_through, no_larger_list, no_larger_object, next_value, further_value, turned_items, none_more, joined_behind, joined_larger, item_first, covered}
 use Rattle.conf_inherit.proofs.FieldPlaceLemmas.{base_named, list_place, entry_place, inheriting_place, alias_place, member_value_place, member_type_place, type_is_no_base, alias_field, base_place, SamePlace}
-use Rattle.conf_tree.specs.Walk.{HasMember}
+use Rattle.conf_inherit.proofs.FaultLemmas.{SoundAt, sound_entries, passes_text, some_of, part_empty, joined_empty}
+use Rattle.conf_tree.specs.{Flaw.{key, index, within}, Walk.HasMember}
 
 -- what a base stands for: no values, or those that are looked up as it
 abbrev pub StandsFor : Members → Place → List Data → Option Data → Type 0
@@ -125,35 +126,39 @@ module _ (al done : Members) where
         rw (is, agree n ∙ is) (an_entry here (entries_new es cs each seen agree ms all.1)))
   ]
 
--- ---- what holds of each value that is ready
+-- ---- what holds of each value without a flaw whose names are all resolved
 
-ready_under : (done : Members) (s : Place) (ms : Members) → HasReady done s ms → (k : List ℕ) (d : Data) → HasMember k d ms → IsReady done (place_under s k) d
-ready_under done s no_members ready k d there = absurd there
-ready_under done s (member l e ms) ready k d (inl one) = subst (λ n. IsReady done (place_under s n) d) (sym one.0) (subst (IsReady done (place_under s l)) (sym one.1) ready.0)
-ready_under done s (member l e ms) ready k d (inr later) = ready_under done s ms ready.1 k d later
-
-module _ (done : Members) (P : Place → Data → Type 0) (of_plain : (s : Place) (v : Data) → IsPlain s v → P s v)
+module _ (al done : Members) (P : Place → Data → Type 0) (of_plain : (s : Place) (v : Data) → IsPlain s v → P s v)
     (of_text : (s : Place) (n : List ℕ) → (Names s → (r : Data) × (get_member n done ≡ Some r)) → P s (string n))
     (of_list : (s : Place) (es : Items) → (lists_members s ≡ true → NoClash (entries_of es)) → (lists_members s ≡ true → (n : List ℕ) (d : Data) → get_member n (entries_of es) ≡ Some d → P places.Member d) → P s (array es))
-    (of_object : (s : Place) (ms : Members) → HasReady done s ms → ((k : List ℕ) (d : Data) → HasMember k d ms → P (place_under s k) d) → P s (object ms)) where
+    (of_object : (s : Place) (ms : Members) → ((k : List ℕ) (d : Data) → HasMember k d ms → P (place_under s k) d) → P s (object ms)) where
   mutual
-    pub of_ready : (v : Data) (s : Place) → IsReady done s v → P s v
-    of_ready (string n) s ready = of_text s n ready
-    of_ready (array es) s ready = of_list s es ready.0 (λ is. entry_found (λ n d. P places.Member d) (entries_of es) (of_entries es (subst (λ x. AreReady done x es) (list_place s is) ready.1)))
-    of_ready (object ms) s ready = of_object s ms ready (λ k d there. each_has (λ k d. P (place_under s k) d) ms k d (of_members ms s ready) there)
-    of_ready _ s ready = of_plain s _ tt
+    pub of_sound : (v : Data) (s : Place) → SoundAt al s v → all_named (has done) s v ≡ true → P s v
+    of_sound (string n) s h named = of_text s n (λ names. some_of (get_member n done) (passes_text (has done) s n names named))
+    of_sound (array es) s h named =
+        of_list s es (λ is. sound_entries al s es is h) (λ is. entry_found (λ n d. P places.Member d) (entries_of es) (of_entries es s 0 no_members (list_place s is) (joined_empty _ _ h.sound).1 named))
+    of_sound (object ms) s h named = of_object s ms (λ k d there. each_has (λ k d. P (place_under s k) d) ms k d (of_members ms s h.seen (joined_empty _ _ h.sound).1 named) there)
+    of_sound _ s h named = of_plain s _ tt
 
-    of_members : (ms : Members) (s : Place) → HasReady done s ms → AllEntries (λ k d. P (place_under s k) d) ms
-    of_members no_members s ready = tt
-    of_members (member k d ms) s ready = (of_ready d (place_under s k) ready.0, of_members ms s ready.1)
+    of_members : (ms : Members) (s : Place) (seen : Members) → member_flaws al None s seen ms ≡ [] → all_named_in_members (has done) s ms ≡ true → AllEntries (λ k d. P (place_under s k) d) ms
+    of_members no_members s seen h named = tt
+    of_members (member k d ms) s seen h named =
+        let (mine, later) = part_empty (within (key k)) _ _ h in
+        let parts = and_parts (all_named (has done) (place_under s k) d) (all_named_in_members (has done) s ms) named in
+        (of_sound d (place_under s k) (record { taken = _; seen = no_members; sound = (joined_empty _ _ mine).0 }) parts.0, of_members ms s seen later parts.1)
 
-    of_entries : (es : Items) → AreReady done places.Entry es → AllEntries (λ n d. P places.Member d) (entries_of es)
-    of_entries no_items ready = tt
-    of_entries (item v es) ready = all_joined (λ n d. P places.Member d) (properties_of v) (entries_of es) (of_entry v ready.0) (of_entries es ready.1)
+    of_entries : (es : Items) (s : Place) (i : ℕ) (seen : Members) → place_of_items s ≡ places.Entry → item_flaws al None s i seen es ≡ [] → all_named_in_items (has done) (place_of_items s) es ≡ true → AllEntries (λ n d. P places.Member d) (entries_of es)
+    of_entries no_items s i seen place h named = tt
+    of_entries (item v es) s i seen place h named =
+        let (mine, later) = part_empty (within (index i)) _ _ h in
+        let parts = and_parts (all_named (has done) (place_of_items s) v) (all_named_in_items (has done) (place_of_items s) es) named in
+        all_joined (λ n d. P places.Member d) (properties_of v) (entries_of es)
+        (of_entry v seen (subst (λ t. flaws al None t false seen v ≡ []) place mine) (subst (λ t. all_named (has done) t v ≡ true) place parts.0)) (of_entries es s (suc i) (mark v seen) place later parts.1)
 
-    of_entry : (v : Data) → IsReady done places.Entry v → AllEntries (λ n d. P places.Member d) (properties_of v)
-    of_entry (object ms) ready = all_along (λ k d. P (place_under places.Entry k) d) (λ n d. P places.Member d) (λ k d h. subst (λ x. P x d) (entry_place k) h) ms (of_members ms places.Entry ready)
-    of_entry _ ready = tt
+    of_entry : (v : Data) (seen : Members) → flaws al None places.Entry false seen v ≡ [] → all_named (has done) places.Entry v ≡ true → AllEntries (λ n d. P places.Member d) (properties_of v)
+    of_entry (object ms) seen h named =
+        all_along (λ k d. P (place_under places.Entry k) d) (λ n d. P places.Member d) (λ k d x. subst (λ t. P t d) (entry_place k) x) ms (of_members ms places.Entry seen (joined_empty _ _ h).1 named)
+    of_entry _ seen h named = tt
 
 -- ---- members lists and other lists
 
@@ -255,11 +260,8 @@ module _ (al done : Members) where
     lays_plain s (object ms) p vs base stands = absurd p
     lays_plain s _ p vs base stands = looks (plain p) (a_scalar p)
 
-    pub lays : (v : Data) (s : Place) → IsReady done s v → Lays al done s v
-    lays v s ready = of_ready done (Lays al done) lays_plain lays_text (λ s es clear each. lays_list s es clear each) (λ s ms rest each. lays_object s ms each) v s ready
-
-    pub lays_from : (ms : Members) (s : Place) → HasReady done s ms → (b : Data) → base_of s ms ≡ Some b → Looks al places.FieldType (b ∷ []) (lay done places.FieldType b None)
-    lays_from ms s ready b e = inherited s ms (λ k d there. lays d (place_under s k) (ready_under done s ms ready k d there)) b e
+    pub lays : (v : Data) (s : Place) → SoundAt al s v → all_named (has done) s v ≡ true → Lays al done s v
+    lays v s sound named = of_sound al done (Lays al done) lays_plain lays_text (λ s es clear each. lays_list s es clear each) (λ s ms each. lays_object s ms each) v s sound named
 
 -- A value laid over nothing is no larger than laid over a base.
 
@@ -280,10 +282,10 @@ module _ (al done : Members) where
   property_stands s k cs base g = elim (cases_Option (get_member k base)) [ inl e ↦ ([], rw e refl) | inr (b, e) ↦ (values_at s k cs, rw e (g.found k b e)) ]
 
   -- what an object is laid over, where nothing else is below it
-  pub ground_base : AreResolved al done → (s : Place) (ms : Members) → HasReady done s ms → (cs : List Data) × Ground al s cs (members_below (lay_base done s ms None))
-  ground_base known s ms ready = elim (cases_Option (base_of s ms)) [
+  pub ground_base : AreResolved al done → (s : Place) (ms : Members) → ((k : List ℕ) (d : Data) → HasMember k d ms → Lays al done (place_under s k) d) → (cs : List Data) × Ground al s cs (members_below (lay_base done s ms None))
+  ground_base known s ms each = elim (cases_Option (base_of s ms)) [
     | inl e ↦ rw (lay_base-own done s ms None e) ([], no_ground al s)
-    | inr (b, e) ↦ rw (lay_base-heir done s ms None b e) (heir_at b e (lays_from al done known ms s ready b e))
+    | inr (b, e) ↦ rw (lay_base-heir done s ms None b e) (heir_at b e (inherited al done known s ms each b e))
   ]
     where
       heir_at : (b : Data) → base_of s ms ≡ Some b → Looks al places.FieldType (b ∷ []) (lay done places.FieldType b None) → (cs : List Data) × Ground al s cs (members_below (Some (lay done places.FieldType b None)))
@@ -393,5 +395,5 @@ module _ (al done : Members) where
   plain_grows s (string n) p vs base stands = as_large (lay_text done s n)
   plain_grows s v p vs base stands = as_large v
 
-  pub grows : (v : Data) (s : Place) → IsReady done s v → Grows s v
-  grows v s ready = of_ready done Grows plain_grows (λ s n ready vs base stands. as_large (lay_text done s n)) grows_list (λ s ms rest each. grows_object s ms (λ k d h. each k d (has_found k d ms h))) v s ready
+  pub grows : (v : Data) (s : Place) → SoundAt al s v → all_named (has done) s v ≡ true → Grows s v
+  grows v s sound named = of_sound al done Grows plain_grows (λ s n named vs base stands. as_large (lay_text done s n)) grows_list (λ s ms each. grows_object s ms (λ k d h. each k d (has_found k d ms h))) v s sound named

@@ -13,6 +13,5 @@ pub mod RefusalLemmas
 pub mod TurnLemmas
 pub mod SpentLemmas
 pub mod TakenLemmas
-pub mod PutLemmas
 pub mod WorkedPlaces
 pub mod WorkedRows

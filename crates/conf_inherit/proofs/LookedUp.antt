@@ -92,20 +92,14 @@ module _ (al : Members) where
 abbrev pub IsClean : Data → Type 0
 IsClean d = Ascends d × (has_float d ≡ false)
 
-abbrev AllItems : Items → Type 0
-AllItems no_items = Unit {0}
-AllItems (item d ds) = IsClean d × AllItems ds
-
 abbrev AllMembers : Members → Type 0
 AllMembers ms = AllEntries (λ k d. IsClean d) ms
 
-to_list : (es : Items) → AllItems es → IsClean (array es)
-to_list no_items h = (tt, refl)
-to_list (item d es) h = let rest = to_list es h.1 in ((h.0.0, rest.0), or_from (has_float d) (items_have_float es) h.0.1 rest.1)
+of_item : (d : Data) (es : Items) → IsClean (array (item d es)) → IsClean d × IsClean (array es)
+of_item d es (order, whole) = let (one, rest) = or_parts (has_float d) (items_have_float es) whole in ((order.0, one), (order.1, rest))
 
-of_list : (es : Items) → IsClean (array es) → AllItems es
-of_list no_items h = tt
-of_list (item d es) (order, whole) = let (one, rest) = or_parts (has_float d) (items_have_float es) whole in ((order.0, one), of_list es (order.1, rest))
+an_item : (d : Data) (es : Items) → IsClean d → IsClean (array es) → IsClean (array (item d es))
+an_item d es h i = ((h.0, i.0), or_from (has_float d) (items_have_float es) h.1 i.1)
 
 of_each : (ms : Members) → AllMembers ms → MembersAscend ms × (members_have_float ms ≡ false)
 of_each no_members h = (tt, refl)
@@ -138,9 +132,9 @@ of_properties : (d : Data) → IsClean d → AllMembers (properties_of d)
 of_properties (object ms) w = of_object ms w
 of_properties _ w = tt
 
-of_its_items : (d : Data) → IsClean d → AllItems (items_in d)
-of_its_items (array es) w = of_list es w
-of_its_items _ w = tt
+of_its_items : (d : Data) → IsClean d → IsClean (array (items_in d))
+of_its_items (array es) w = w
+of_its_items _ w = (tt, refl)
 
 of_property : (k : List ℕ) (d e : Data) → IsClean d → get k d ≡ Some e → IsClean e
 of_property k (object ms) e w h = entry_found (λ n x. IsClean x) ms (of_object ms w) k e h
@@ -157,20 +151,20 @@ of_values k (d ∷ ds) w = with_some (get k d) (values_in k ds) (λ e h. of_prop
 of_values_at : (s : Place) (k : List ℕ) (ds : List Data) → AllByRecursion IsClean ds → AllByRecursion IsClean (values_at s k ds)
 of_values_at s k ds w = elim (cases_Bool (is_base_name s k)) [ inl is ↦ rw is tt | inr is ↦ rw is (of_values k ds w) ]
 
-both_items : (a b : Items) → AllItems a → AllItems b → AllItems (join_items a b)
+both_items : (a b : Items) → IsClean (array a) → IsClean (array b) → IsClean (array (join_items a b))
 both_items no_items b h i = i
-both_items (item d a) b h i = (h.0, both_items a b h.1 i)
+both_items (item d a) b h i = let (one, rest) = of_item d a h in an_item d (join_items a b) one (both_items a b rest i)
 
-of_entries : (es : Items) → AllItems es → AllMembers (entries_of es)
+of_entries : (es : Items) → IsClean (array es) → AllMembers (entries_of es)
 of_entries no_items h = tt
-of_entries (item d es) h = all_joined (λ k e. IsClean e) (properties_of d) (entries_of es) (of_properties d h.0) (of_entries es h.1)
+of_entries (item d es) h = let (one, rest) = of_item d es h in all_joined (λ k e. IsClean e) (properties_of d) (entries_of es) (of_properties d one) (of_entries es rest)
 
 of_entry_values : (n : List ℕ) (ds : List Data) → AllByRecursion IsClean ds → AllByRecursion IsClean (entry_values n ds)
 of_entry_values n [] w = tt
 of_entry_values n (d ∷ ds) w = with_some (get_member n (entries_of (items_in d))) (entry_values n ds) (λ e h. entry_found (λ k x. IsClean x) (entries_of (items_in d)) (of_entries (items_in d) (of_its_items d w.0)) n e h) (of_entry_values n ds w.1)
 
-of_joined : (ds : List Data) → AllByRecursion IsClean ds → AllItems (joined ds)
-of_joined [] w = tt
+of_joined : (ds : List Data) → AllByRecursion IsClean ds → IsClean (array (joined ds))
+of_joined [] w = (tt, refl)
 of_joined (d ∷ ds) w = both_items (joined ds) (items_in d) (of_joined ds w.1) (of_its_items d w.0)
 
 -- names that ascend do not stand twice
@@ -195,12 +189,12 @@ module _ (al : Members) (known : AllMembers al) where
     of_shows : {s : Place} {cs : List Data} {r : Data} → Shows al s cs r → AllByRecursion IsClean cs → IsClean r
     of_shows (a_scalar p) w = w.0
     of_shows {s} (an_object {ms = ms} {rs = rs} {cs = cs} o f g) w = to_object rs o (all_along (λ k r. get_member k rs ≡ Some r) (λ k r. IsClean r) (λ k r h. of_looks (f k r h) (of_values_at s k (object ms ∷ cs) w)) rs (found_each rs (apart rs o)))
-    of_shows (the_members {rs = rs} m e) w = to_list rs (of_listed e w)
-    of_shows (a_join {es = es} {cs = cs} m) w = to_list _ (of_joined (array es ∷ cs) w)
+    of_shows (the_members m e) w = of_listed e w
+    of_shows (a_join {es = es} {cs = cs} m) w = of_joined (array es ∷ cs) w
 
-    of_listed : {cs : List Data} {ns : List (List ℕ)} {rs : Items} → Entries al cs ns rs → AllByRecursion IsClean cs → AllItems rs
-    of_listed no_entry w = tt
-    of_listed {cs} (an_entry {n = n} {r = r} {rs = rs} l e) w = (to_object (member n r no_members) (tt, tt) (of_looks l (of_entry_values n cs w), tt), of_listed e w)
+    of_listed : {cs : List Data} {ns : List (List ℕ)} {rs : Items} → Entries al cs ns rs → AllByRecursion IsClean cs → IsClean (array rs)
+    of_listed no_entry w = (tt, refl)
+    of_listed {cs} (an_entry {n = n} {r = r} {rs = rs} l e) w = an_item (object (member n r no_members)) rs (to_object (member n r no_members) (tt, tt) (of_looks l (of_entry_values n cs w), tt)) (of_listed e w)
 
 -- ---- a whole configuration
 

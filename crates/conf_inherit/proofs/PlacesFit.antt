@@ -5,15 +5,15 @@ use Rattle.serde_json.specs.{Data.{Data, array, object, Items, no_items, item, M
 use Rattle.conf_tree.specs.{Flaw.{Place as Step, key, index, within}, Order.{Ascends, ItemsAscend}, Walk.HasMember}
 use Rattle.conf_table.specs.{declared.place.Place.Place, Table.{rows_of, entries_of, content_under, place_in}}
 use Rattle.conf_inherit.specs.FieldPlaces.{field_place, place_under, place_of_items, names_alias, names_member_type, is_base_name, lists_members, leads_on}
-use Rattle.conf_inherit.specs.{Faults.{Leads, ListsTooMany}, Limits.{Fits, Inherits, InheritsInItems, InheritsInMembers, limit_flaws}, Ready.{Names, IsReady}}
+use Rattle.conf_inherit.specs.{Faults.{Leads, ListsTooMany}, Limits.{Fits, Inherits, InheritsInItems, InheritsInMembers, limit_flaws}}
 use Rattle.conf_inherit.specs.{Flaws.{is_wrong, is_no_entry, type_flaws, mark}, Places.{inner_places, item_places, place_flaws}}
-use Rattle.conf_inherit.specs.{Laying.{lay, lay_base, lay_members, lay_new, lay_new_entry, lay_new_member, has_entry, members_below}, Named.{all_named, has}}
+use Rattle.conf_inherit.specs.{Laying.{lay, lay_base, lay_members, lay_new, lay_new_entry, lay_new_member, has_entry, members_below}, Named.{Names, all_named, has}}
 use Rattle.conf_inherit.specs.Looks.{AreResolved}
-use Rattle.conf_inherit.proofs.{LaysOver.{laid_entry, property_stands, ground_base, grows}, LayingLemmas.{each_has, lay_members-found, found_each}}
-use Rattle.conf_inherit.proofs.FaultLemmas.{named, own_sound, ready, single_entry, part_empty, joined_empty}
+use Rattle.conf_inherit.proofs.{LaysOver.{laid_entry, property_stands, ground_base, lays, grows}, LayingLemmas.{each_has, has_found, lay_members-found, found_each}}
+use Rattle.conf_inherit.proofs.FaultLemmas.{SoundAt, named, own_sound, single_entry, part_empty, joined_empty}
 use Rattle.conf_inherit.proofs.SizeLemmas.{NoLargerItems, as_large, as_large_items, items_through, next_value, further_value, none_more, fits_below, property_fits, item_fits}
 use Rattle.conf_inherit.proofs.{LookedUp.{apart, member_in_order}, LimitLemmas.{EachFits, sound_type, fits_inside, limit_fits}}
-use Rattle.conf_inherit.proofs.SoundPlaces.{SoundAt, sound_under, sound_item, parts, member_place, object_places, list_places, extras_there, root_place, place_of_type, place_of_member, IsOutside, under_outside, on_or_ignored, extras_or_ignored, LeadsElsewhere, under_elsewhere, items_elsewhere, no_extras, extras_fine}
+use Rattle.conf_inherit.proofs.SoundPlaces.{sound_under, sound_item, parts, member_place, object_places, list_places, extras_there, root_place, IsOutside, under_outside, on_or_ignored, extras_or_ignored, LeadsElsewhere, under_elsewhere, items_elsewhere, no_extras, extras_fine}
 use Rattle.conf_inherit.proofs.FieldPlaceLemmas.{list_place, base_place, ignored_under, alias_place, member_value_place, entry_place}
 use Rattle.conf_table.specs.declared.place.Place.TheVariants as places
 
@@ -25,12 +25,6 @@ lists_or_ignored places.Members = inl refl
 lists_or_ignored places.ExtraMembers = inl refl
 lists_or_ignored _ = inr refl
 
-led_on : (path : List Step) (v : Data) (t : Place) (w : Data) → Leads places.Ignored v path t w → t ≡ places.Ignored
-unfolding place_of_items
-led_on [] v t w (place, value) = sym place
-led_on (key k ∷ path) v t w (ms, d, is, there, leads) = led_on path d t w (subst (λ x. Leads x d path t w) (ignored_under k) leads)
-led_on (index i ∷ path) v t w (es, d, is, there, leads) = led_on path d t w leads
-
 nothing_named : Names places.Ignored → ⊥
 unfolding names_alias names_member_type
 nothing_named (inl h) = true≢false (sym h)
@@ -39,11 +33,6 @@ nothing_named (inr h) = true≢false (sym h)
 -- a field type fits by itself, and there are not too many extra members
 abbrev pub IsFine : Members → Place → Data → Type 0
 IsFine done t w = (Names t → Fits (lay done t w None)) × ¬ ListsTooMany t w
-
--- from a value that is ignored no way leads to either
-ignored_fine : (done : Members) (s : Place) (path : List Step) (v : Data) (t : Place) (w : Data) → s ≡ places.Ignored → Leads s v path t w → IsFine done t w
-ignored_fine done s path v t w ignored leads =
-    subst (λ x. IsFine done x w) (sym (led_on path v t w (subst (λ x. Leads x v path t w) ignored leads))) ((λ names. absurd (nothing_named names)), no_extras places.Ignored w refl)
 
 item_in_order : (es : Items) (i : ℕ) (d : Data) → ItemsAscend es → get_item i es ≡ Some d → Ascends d
 item_in_order no_items i d each there = absurd cc
@@ -117,9 +106,6 @@ module _ (al done : Members) (known : AreResolved al done) (all : (n : List ℕ)
   pub sound_named : (s : Place) (v : Data) → SoundAt al s v → all_named (has done) s v ≡ true
   sound_named s v h = named al None (has done) all v s h.taken h.seen h.sound
 
-  pub sound_ready : (s : Place) (v : Data) → SoundAt al s v → IsReady done s v
-  sound_ready s v h = ready al None done v s h.taken h.seen h.sound (sound_named s v h)
-
   -- a value of a `$inherit`, or another property
   property_fit : (s : Place) (ms : Members) (k : List ℕ) (d : Data) (h : IsFit s (object ms)) → HasMember k d ms → Fits (lay done (place_under s k) d None)
   property_fit s ms k d h there =
@@ -129,11 +115,11 @@ module _ (al done : Members) (known : AreResolved al done) (all : (n : List ℕ)
             subst (λ x. Fits (lay done x d None)) (sym place) (h.inherited d (base_inherits s ms k d is there) (subst (λ x. all_named (has done) x d ≡ true) place (sound_named (place_under s k) d part))))
         | inr is ↦ (let base = members_below (lay_base done s ms None) in
             let found = each_has (λ n e. get_member n ms ≡ Some e) ms k d (found_each ms (apart ms h.in_order.0)) there in
-            let (cs, g) = ground_base al done known s ms (sound_ready s (object ms) h.sound) in
+            let (cs, g) = ground_base al done known s ms (λ n e at. let one = sound_under al s ms n e h.sound at in lays al done known e (place_under s n) one (sound_named (place_under s n) e one)) in
             let (vs, stands) = property_stands al done s k cs base g in
             let laid = lay done (place_under s k) d (get_member k base) in
-            fits_below (lay done (place_under s k) d None) laid (grows al done d (place_under s k) (sound_ready (place_under s k) d part) vs (get_member k base) stands)
-            (property_fits k laid (lay_members done s ms base) (lay_members-found done s k d ms base is found) h.whole))
+            fits_below (lay done (place_under s k) d None) laid (grows al done d (place_under s k) part (sound_named (place_under s k) d part) vs (get_member k base) stands)
+            (property_fits k laid (lay_members done s ms base) (has_found k _ _ (lay_members-found done s k d ms base is found)) h.whole))
       ]
 
   fit_under : (s : Place) (ms : Members) (k : List ℕ) (d : Data) → IsFit s (object ms) → HasMember k d ms → IsFit (place_under s k) d
@@ -158,15 +144,6 @@ module _ (al done : Members) (known : AreResolved al done) (all : (n : List ℕ)
         whole = subst (λ t. Fits (lay done t e None)) (sym place) (entry_fits done s es i e is (single_entry e (subst (λ t. is_wrong t e ≡ false) place right)) there h.whole);
       }
 
-  -- each field type that a path leads to fits
-  pub fits_along : (path : List Step) (s : Place) (v : Data) (t : Place) (w : Data) → IsFit s v → Leads s v path t w → IsFine done t w
-  fits_along [] s v t w h (place, value) = subst (λ x. IsFine done x w) place (subst (IsFine done s) value ((λ names. h.whole), no_extras s v h.elsewhere))
-  fits_along (key k ∷ path) s v t w h (ms, d, is, there, leads) = fits_along path (place_under s k) d t w (fit_under s ms k d (subst (IsFit s) is h) there) leads
-  fits_along (index i ∷ path) s v t w h (es, d, is, there, leads) = elim (lists_or_ignored s) [
-    | inl lists ↦ fits_along path (place_of_items s) d t w (fit_entry s es i d lists (subst (IsFit s) is h) there) leads
-    | inr ignored ↦ ignored_fine done (place_of_items s) path d t w ignored leads
-  ]
-
 -- Where nothing is wrong at the places of a configuration, each field type in it fits by itself.
 
 -- ---- the places on the way to a field type
@@ -176,10 +153,6 @@ unnamed_outside : (s : Place) → IsOutside s → names_alias s ≡ false → ¬
 unfolding leads_on
 unnamed_outside s out no_type (inl h) = true≢false (sym h ∙ no_type)
 unnamed_outside s out no_type (inr h) = true≢false (sym (subst IsOutside (member_value_place s h) out))
-
-extra_items : place_of_items places.ExtraMembers ≡ places.Entry
-unfolding place_of_items
-extra_items = refl
 
 entry_unnamed : Names places.Entry → ⊥
 unfolding names_alias names_member_type
@@ -210,12 +183,11 @@ module _ (al done : Members) (known : AreResolved al done) (all : (n : List ℕ)
   item_place i seen (item x es) (suc j) e none there = item_place (suc i) (mark x seen) es j e (part_empty (within (index i)) _ _ none).1 there
 
   member_fit : (ms : Members) (k : List ℕ) (d : Data) → Ascends (object ms) → ExtraSound (object ms) → HasMember k d ms → IsFit al done known all (place_under places.Entry k) d
-  unfolding leads_on names_alias names_member_type
+  unfolding leads_on place_flaws names_alias names_member_type
   member_fit ms k d ordered h there =
       let mine = sound_under al places.Entry ms k d h.sound there in
       let place = member_place al done places.Entry ms k d (object_places al done places.Entry ms refl h.places) there in
-      let none : limit_flaws done places.Member d ≡ [] =
-      sym (place_of_member al done places.Member d refl refl) ∙ subst (λ t. place_flaws al done t d ≡ []) (entry_place k) (joined_empty _ _ place).0 in
+      let none : limit_flaws done places.Member d ≡ [] = subst (λ t. place_flaws al done t d ≡ []) (entry_place k) (joined_empty _ _ place).0 in
       let whole = (limit_fits done places.Member d).0 none in
       record {
         elsewhere = under_elsewhere places.Entry k refl;
@@ -225,25 +197,11 @@ module _ (al done : Members) (known : AreResolved al done) (all : (n : List ℕ)
         whole = subst (λ t. Fits (lay done t d None)) (sym (entry_place k)) (whole (subst (λ t. all_named (has done) t d ≡ true) (entry_place k) (sound_named al done known all (place_under places.Entry k) d mine)));
       }
 
-  extra_along : (path : List Step) (e : Data) (t : Place) (w : Data) → Ascends e → ExtraSound e → Leads places.Entry e path t w → IsFine done t w
-  unfolding place_of_items
-  extra_along [] e t w ordered h (place, value) = subst (λ x. IsFine done x w) place ((λ names. absurd (entry_unnamed names)), no_extras places.Entry w refl)
-  extra_along (index i ∷ path) e t w ordered h (es, d, is, there, leads) = ignored_fine done (place_of_items places.Entry) path d t w refl leads
-  extra_along (key k ∷ path) e t w ordered h (ms, d, is, there, leads) =
-      fits_along al done known all path (place_under places.Entry k) d t w (member_fit ms k d (subst Ascends is ordered) (subst ExtraSound is h) there) leads
-
   -- nothing is wrong with a value, nor at the places in it
   record SoundPlace (s : Place) (v : Data) : Type 0 where
     sound : SoundAt al s v
     in_order : Ascends v
     places : parts al done s v ≡ []
-
-  type_along : (path : List Step) (s : Place) (v : Data) (t : Place) (w : Data) → SoundPlace s v → names_alias s ≡ true → Leads s v path t w → IsFine done t w
-  type_along path s v t w h is leads =
-      let place = alias_place s is in
-      let none = sym (place_of_type al done s v is) ∙ (joined_empty _ _ h.places).0 in
-      fits_along al done known all path places.FieldType v t w (type_fit v (subst (λ x. SoundAt al x v) place h.sound) h.in_order (subst (λ x. type_flaws al done x v ≡ []) place none))
-      (subst (λ x. Leads x v path t w) place leads)
 
   place_under_sound : (s : Place) (ms : Members) (k : List ℕ) (d : Data) → SoundPlace s (object ms) → leads_on s ≡ true → HasMember k d ms → SoundPlace (place_under s k) d
   place_under_sound s ms k d h on there = record {
@@ -252,31 +210,54 @@ module _ (al done : Members) (known : AreResolved al done) (all : (n : List ℕ)
     places = member_place al done s ms k d (object_places al done s ms on (joined_empty _ _ h.places).1) there;
   }
 
-  extras_along : (path : List Step) (i : ℕ) (es : Items) (d : Data) (t : Place) (w : Data) → SoundPlace places.ExtraMembers (array es) → get_item i es ≡ Some d → Leads places.Entry d path t w → IsFine done t w
-  extras_along path i es d t w h there leads =
-      extra_along path d t w (item_in_order es i d h.in_order there) (item_place 0 no_members es i d (list_places al done es (joined_empty _ _ h.places).1) there) leads
+  -- where a path stands: outside the field types, at an extra member, in a field type, or where nothing has a meaning
+  data Stands (s : Place) (v : Data) : Type 0 where
+    outside : IsOutside s → names_alias s ≡ false → SoundPlace s v → Stands s v
+    extra : s ≡ places.Entry → Ascends v → ExtraSound v → Stands s v
+    inside : IsFit al done known all s v → Stands s v
+    ignored : s ≡ places.Ignored → Stands s v
+
+  stands_outside : (s : Place) (v : Data) → IsOutside s → SoundPlace s v → Stands s v
+  unfolding place_flaws
+  stands_outside s v out h = let own : place_flaws al done s v ≡ [] = (joined_empty _ _ h.places).0 in elim (cases_Bool (names_alias s)) [
+    | inl is ↦ (let place = alias_place s is in
+        let none : type_flaws al done s v ≡ [] = rw is at own in
+        inside (subst (λ t. IsFit al done known all t v) (sym place) (type_fit v (subst (λ t. SoundAt al t v) place h.sound) h.in_order (subst (λ t. type_flaws al done t v ≡ []) place none))))
+    | inr no_type ↦ outside out no_type h
+  ]
+
+  stands_under : (s : Place) (ms : Members) (k : List ℕ) (d : Data) → HasMember k d ms → Stands s (object ms) → Stands (place_under s k) d
+  stands_under s ms k d there (outside out no_type h) = elim (on_or_ignored s k out no_type) [ inl on ↦ stands_outside (place_under s k) d (under_outside s k out on) (place_under_sound s ms k d h on there) | inr is ↦ ignored is ]
+  stands_under s ms k d there (extra place ordered h) = inside (subst (λ t. IsFit al done known all (place_under t k) d) (sym place) (member_fit ms k d ordered h there))
+  stands_under s ms k d there (inside h) = inside (fit_under al done known all s ms k d h there)
+  stands_under s ms k d there (ignored place) = ignored (ap (λ t. place_under t k) place ∙ ignored_under k)
+
+  stands_in : (s : Place) (es : Items) (i : ℕ) (d : Data) → get_item i es ≡ Some d → Stands s (array es) → Stands (place_of_items s) d
+  unfolding place_of_items
+  stands_in s es i d there (outside out no_type h) = elim (extras_or_ignored s out) [
+    | inl extras ↦ (let place = extras_there s extras in
+        let none = list_places al done es (joined_empty _ _ (subst (λ t. parts al done t (array es) ≡ []) place h.places)).1 in
+        extra (ap place_of_items place) (item_in_order es i d h.in_order there) (item_place 0 no_members es i d none there))
+    | inr is ↦ ignored is
+  ]
+  stands_in s es i d there (extra place ordered h) = ignored (ap place_of_items place)
+  stands_in s es i d there (inside h) = elim (lists_or_ignored s) [ inl lists ↦ inside (fit_entry al done known all s es i d lists h there) | inr is ↦ ignored is ]
+  stands_in s es i d there (ignored place) = ignored (ap place_of_items place)
+
+  stands_fine : (s : Place) (v : Data) → Stands s v → IsFine done s v
+  stands_fine s v (outside out no_type h) = ((λ names. absurd (unnamed_outside s out no_type names)), extras_fine al done s v (joined_empty _ _ h.places).0)
+  stands_fine s v (extra place ordered h) = subst (λ t. IsFine done t v) (sym place) ((λ names. absurd (entry_unnamed names)), no_extras places.Entry v refl)
+  stands_fine s v (inside h) = ((λ names. h.whole), no_extras s v h.elsewhere)
+  stands_fine s v (ignored place) = subst (λ t. IsFine done t v) (sym place) ((λ names. absurd (nothing_named names)), no_extras places.Ignored v refl)
 
   -- each field type that a path leads to fits
-  place_along : (path : List Step) (s : Place) (v : Data) (t : Place) (w : Data) → IsOutside s → SoundPlace s v → Leads s v path t w → IsFine done t w
-  place_along [] s v t w out h (place, value) = elim (cases_Bool (names_alias s)) [
-    | inl is ↦ type_along [] s v t w h is (place, value)
-    | inr no_type ↦ subst (λ x. IsFine done x w) place (subst (IsFine done s) value ((λ names. absurd (unnamed_outside s out no_type names)), extras_fine al done s v (joined_empty _ _ h.places).0))
-  ]
-  place_along (key k ∷ path) s v t w out h (ms, d, is, there, leads) = elim (cases_Bool (names_alias s)) [
-    | inl named ↦ type_along (key k ∷ path) s v t w h named (ms, d, is, there, leads)
-    | inr no_type ↦ elim (on_or_ignored s k out no_type) [
-      | inl on ↦ place_along path (place_under s k) d t w (under_outside s k out on) (place_under_sound s ms k d (subst (SoundPlace s) is h) on there) leads
-      | inr ignored ↦ ignored_fine done (place_under s k) path d t w ignored leads
-    ]
-  ]
-  place_along (index i ∷ path) s v t w out h (es, d, is, there, leads) = elim (extras_or_ignored s out) [
-    | inl extras ↦ (let place = extras_there s extras in
-        extras_along path i es d t w (subst (λ x. SoundPlace x (array es)) place (subst (SoundPlace s) is h)) there (subst (λ x. Leads x d path t w) (ap place_of_items place ∙ extra_items) leads))
-    | inr ignored ↦ ignored_fine done (place_of_items s) path d t w ignored leads
-  ]
+  fine_along : (path : List Step) (s : Place) (v : Data) (t : Place) (w : Data) → Stands s v → Leads s v path t w → IsFine done t w
+  fine_along [] s v t w h (place, value) = subst (λ x. IsFine done x w) place (subst (IsFine done s) value (stands_fine s v h))
+  fine_along (key k ∷ path) s v t w h (ms, d, is, there, leads) = fine_along path (place_under s k) d t w (stands_under s ms k d there (subst (Stands s) is h)) leads
+  fine_along (index i ∷ path) s v t w h (es, d, is, there, leads) = fine_along path (place_of_items s) d t w (stands_in s es i d there (subst (Stands s) is h)) leads
 
   -- nothing is wrong with a configuration as a whole, nor at its places
   pub all_fine : (v : Data) (path : List Step) (t : Place) (w : Data) → SoundAt al places.Root v → Ascends v → inner_places al done places.Root v ≡ [] → Leads places.Root v path t w → IsFine done t w
   unfolding leads_on
   all_fine v path t w at ordered none leads =
-      place_along path places.Root v t w refl (record { sound = at; in_order = ordered; places = root_place al done v none }) leads
+      fine_along path places.Root v t w (stands_outside places.Root v refl (record { sound = at; in_order = ordered; places = root_place al done v none })) leads

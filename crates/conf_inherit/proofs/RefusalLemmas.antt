@@ -9,17 +9,17 @@ use Rattle.conf_tree.specs.{declared.fault_kind.FaultKind.FaultKind, declared.fa
 use Rattle.conf_table.specs.{declared.place.Place.Place, Table.{content_under, entries_of, rows_of, place_in}}
 use Rattle.conf_inherit.specs.FieldPlaces.{field_place, place_under, place_of_items, names_alias, names_member_type, lists_extra_members, leads_on}
 use Rattle.conf_inherit.specs.{AliasFlaws.{first_or_circle, alias_flaws, all_alias_flaws}, Flaws.{type_flaws, mark}, Looks.{AreResolved, Looks}, Names.NoClash}
-use Rattle.conf_inherit.specs.{Circle.Walks, SameFlaw.is_same_flaw, Ready.Names, Named.{all_named, has}, Rounds.Outcomes, Laying.lay}
+use Rattle.conf_inherit.specs.{Circle.Walks, SameFlaw.is_same_flaw, Named.{Names, all_named, has}, Rounds.Outcomes, Laying.lay}
 use Rattle.conf_inherit.specs.{Faults.{Passes, FlawHolds, RefusalHolds, Leads, ListsTooMany, Tells}, Limits.{Exceeds, limit_flaws}}
 use Rattle.conf_inherit.specs.{Places.{too_many, place_flaws, inner_places, item_places, member_places, max_extra_members}, Nesting.{deep_flaws, PassesDepth}}
 use Rattle.conf_inherit.specs.Resolution.{members_or_none, trace_name, type_name, aliases_name, aliases_of, in_aliases, from_aliases, if_shallow, resolution, Resolves}
 use Rattle.conf_inherit.proofs.SizeLemmas.{deep_told, depth_excluded}
-use Rattle.conf_inherit.proofs.SoundPlaces.{place_of_type, place_of_member, place_of_list, place_of_other, flawless, SoundAt, sound_along}
+use Rattle.conf_inherit.proofs.SoundPlaces.{flawless, sound_along}
 use Rattle.conf_inherit.proofs.RoundLemmas.{rounds_of, TreeSound, tree_sound, laid_resolves, resolution_sound, no_flaws, circle_refused, rounds_resolved, rounds_reached, all_done}
 use Rattle.conf_inherit.proofs.{LimitLemmas.{limits_told, bases_told, apart_fits}, LookedUp.{no_twice, one_look, both_there, read_in_order, aliases_apart}, LaysOver.lays}
 use Rattle.conf_inherit.proofs.{FieldPlaceLemmas.{trace_place, trace_type_place, aliases_place, alias_field}, TurnLemmas.{IsOpen, rounds_open}}
-use Rattle.conf_inherit.proofs.FaultLemmas.{joined_empty, own_sound, Each, no_flaw, a_flaw, joined, each_along, part, first_told, IsTold, holds_told, holds_in_object, holds_in_list, entry_told, inner_told, of_itself, flaws_told, Aligned, aligned_all, aligned_here, aligned_next, Seen, seen_next_at, none_seen, ready}
-use Rattle.conf_inherit.proofs.{LayingLemmas.{has_found, AllEntries, found_each}, PlacesFit.{IsFine, sound_named, sound_ready, all_fine}}
+use Rattle.conf_inherit.proofs.FaultLemmas.{joined_empty, own_sound, Each, no_flaw, a_flaw, joined, each_along, part, first_told, IsTold, holds_told, holds_in_object, holds_in_list, entry_told, inner_told, of_itself, flaws_told, Aligned, aligned_all, aligned_here, aligned_next, Seen, seen_next_at, none_seen, SoundAt, sound_entries}
+use Rattle.conf_inherit.proofs.{LayingLemmas.{has_found, AllEntries, found_each}, PlacesFit.{IsFine, sound_named, all_fine}}
 use borrow.Author.Tests.{ltb-true}
 use Rattle.conf_table.specs.declared.place.Place.TheVariants as places
 
@@ -79,13 +79,14 @@ module _ (al : Members) where
     many_told s _ is = no_flaw
 
     place_told : (s : Place) (v : Data) → Each (FlawHolds al s v) (place_flaws al done s v)
+    unfolding place_flaws
     place_told s v = go (names_alias s) refl (names_member_type s) refl (lists_extra_members s) refl
       where
         go : (a : Bool) → names_alias s ≡ a → (b : Bool) → names_member_type s ≡ b → (c : Bool) → lists_extra_members s ≡ c → Each (FlawHolds al s v) (place_flaws al done s v)
-        go true a b b' c c' = subst (Each (FlawHolds al s v)) (sym (place_of_type al done s v a)) (type_holds done known s v (inl a))
-        go false a true b c c' = subst (Each (FlawHolds al s v)) (sym (place_of_member al done s v a b)) (limit_holds done known s v (inr b))
-        go false a false b true c = subst (Each (FlawHolds al s v)) (sym (place_of_list al done s v a b c)) (joined (many_told s v c) (of_itself al (Some done) (FlawHolds al) (told done known) s v))
-        go false a false b false c = subst (Each (FlawHolds al s v)) (sym (place_of_other al done s v a b c)) no_flaw
+        go true a b b' c c' = rw a (type_holds done known s v (inl a))
+        go false a true b c c' = rw (a, b) (limit_holds done known s v (inr b))
+        go false a false b true c = rw (a, b, c) (joined (many_told s v c) (of_itself al (Some done) (FlawHolds al) (told done known) s v))
+        go false a false b false c = rw (a, b, c) no_flaw
 
     mutual
       places_told : (v : Data) (s : Place) → Each (FlawHolds al s v) (inner_places al done s v)
@@ -201,7 +202,7 @@ module _ (text : List ℕ) (t r : Data) (tree : IsTreeOf text t) (h : resolution
 
   -- what a value is laid to is what it is looked up as, under whatever resolved aliases
   laid : (others : Members) (s : Place) (w : Data) → AreResolved (aliases_of t) others → SoundAt (aliases_of t) s w → all_named (has others) s w ≡ true → Looks (aliases_of t) s (w ∷ []) (lay others s w None)
-  laid others s w resolved at named = lays (aliases_of t) others resolved w s (ready (aliases_of t) None others w s at.taken at.seen at.sound named) [] None refl
+  laid others s w resolved at named = lays (aliases_of t) others resolved w s at named [] None refl
 
   fine : (path : List Step) (s : Place) (w : Data) → Leads places.Root t path s w → IsFine done s w
   fine path s w leads = all_fine (aliases_of t) done known all_known t path s w root_sound (read_in_order text t tree.0.1) sound.at_places leads
@@ -219,7 +220,7 @@ module _ (text : List ℕ) (t r : Data) (tree : IsTreeOf text t) (h : resolution
       told_excluded (aliases_of t) flaw.kind s w at (fine flaw.path s w leads).1 told
   flaw_excluded flaw (inl (s, w, leads, inr past)) = passes_excluded flaw.kind flaw.path s w leads past
   flaw_excluded flaw (inr (inl (kind, (front, s, es, i, j, n, is, leads, lists, before, first, second)))) =
-      no_twice es i j n ((sound_ready (aliases_of t) done known all_known s (array es) (sound_along (aliases_of t) front places.Root t s (array es) root_sound leads)).0 lists) before first second
+      no_twice es i j n (sound_entries (aliases_of t) s es lists (sound_along (aliases_of t) front places.Root t s (array es) root_sound leads)) before first second
   flaw_excluded flaw (inr (inr (kind, (front, k, is, leads, walks)))) = circle_refused t r k apart walks h
 
   -- no fault of inheritance holds of it

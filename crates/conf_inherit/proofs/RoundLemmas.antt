@@ -11,9 +11,9 @@ use Rattle.conf_inherit.specs.{Laying.lay, Named.{all_named, has}, SameFlaw.is_s
 use Rattle.conf_inherit.specs.{Limits.{fitting, passed, limit_flaws}, Looks.{Looks, AreResolved}, Names.NoClash, Nesting.{nests, deep_flaws}}
 use Rattle.conf_inherit.specs.Rounds.{Outcomes, has_outcome, is_over, is_empty, if_fitting, outcome, concluded, step, round, all_over, rounds, no_outcomes, Reached, at_first, turned}
 use Rattle.conf_inherit.specs.{Resolution.{aliases_of, Resolves, from_aliases, if_shallow, resolution_after, resolution_under, resolution}, Places.inner_places}
-use Rattle.conf_inherit.proofs.{LimitLemmas.{kept_flaws, fitting_value}, SizeLemmas.shallow_nests, SoundPlaces.flawless}
+use Rattle.conf_inherit.proofs.{LimitLemmas.{fits_inside, kept_flaws, fitting_value}, SizeLemmas.shallow_nests, SoundPlaces.flawless}
 use Rattle.conf_inherit.proofs.LayingLemmas.{some_is_none, Meets, same, other, meets, put_found, AllEntries, entry_found, found_each, get_other}
-use Rattle.conf_inherit.proofs.{LaysOver.lays, FaultLemmas.{named, named_along, blocked, mentioned, is_still, is_put, ready, part_empty, joined_empty, some_of}}
+use Rattle.conf_inherit.proofs.{LaysOver.lays, FaultLemmas.{named, named_along, blocked, mentioned, is_still, is_put, part_empty, joined_empty, some_of}}
 use Rattle.conf_table.specs.declared.place.Place.TheVariants as places
 
 pub empty_flaws : (fs : List Flaw) → is_empty fs ≡ true → fs ≡ []
@@ -78,7 +78,7 @@ module _ (al : Members) where
   outcome_looks done w r known h =
       let is = outcome_is al done w r h in
       subst (Looks al places.FieldType (w ∷ [])) (fitting_value (lay done places.FieldType w None) r is.fits)
-      (lays al done known w places.FieldType (ready al (Some done) done w places.FieldType false no_members is.flawless is.named) [] None refl)
+      (lays al done known w places.FieldType (record { taken = false; seen = no_members; sound = (fits_inside done al w places.FieldType false no_members is.flawless).0 }) is.named [] None refl)
 
   resolved_more : (done : Members) (k : List ℕ) (w r : Data) → AreResolved al done → get_member k al ≡ Some w → Looks al places.FieldType (w ∷ []) r → AreResolved al (put k r done)
   resolved_more done k w r known is l n t h = elim (meets n k) [
@@ -210,7 +210,7 @@ laid_resolves t al n st is apart went sound whole =
     let none = flawless al st.done t whole in
     let all = all_done al st sound (subst (Reached al) (sym went) (rounds_reached al n each)) in
     subst (λ x. Looks x places.Root (t ∷ []) (lay st.done places.Root t None)) is
-    (lays al st.done known t places.Root (ready al None st.done t places.Root false no_members none (named al None (has st.done) all t places.Root false no_members none)) [] None refl)
+    (lays al st.done known t places.Root (record { taken = false; seen = no_members; sound = none }) (named al None (has st.done) all t places.Root false no_members none) [] None refl)
 
 -- ---- the answer
 

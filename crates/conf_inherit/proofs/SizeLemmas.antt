@@ -9,7 +9,7 @@ use Rattle.conf_inherit.specs.{declared.size.Stop.TheVariants.{Memory, Limit}, N
 use Rattle.conf_inherit.specs.{FieldPlaces.{place_under, is_base_name, lists_members}, Size.{size, items_size, members_size, Within, Leaves, IsDue}}
 use Rattle.conf_inherit.specs.{Laying.{lay, items_below, lay_members, lay_over, lay_new}, Limits.Fits}
 use Rattle.conf_table.specs.declared.place.Place.{Place}
-use Rattle.conf_inherit.proofs.LayingLemmas.{join_appended, same, other, meets, get_other, get_same, lay_members-found, lay_members-absent, lay_members-first, get_first, get_none, equal_names, above_turned, above_through, some_is_none, stands, put_keeps}
+use Rattle.conf_inherit.proofs.LayingLemmas.{join_appended, same, other, meets, get_other, get_same, lay_members-found, lay_members-absent, lay_members-first, get_first, get_none, has_found, equal_names, above_turned, above_through, some_is_none, stands, put_keeps}
 use Rattle.conf_inherit.proofs.FaultLemmas.{Each, no_flaw, a_flaw, joined, each_along, part, Aligned, aligned_all, aligned_here, aligned_next, part_empty}
 use Rattle.conf_tree.specs.{Flaw.{Flaw, Place as Step, key, index, within}, Walk.{HasMember, LeadsTo, IsNested}}
 
@@ -61,13 +61,15 @@ pub record NoMore (m n a b : ℕ) : Type 0 where
   pub few : m ≤ n
   pub flat : a ≤ b
 
+-- one value more on the other side alone
+pub further_value : {m n a b : ℕ} (e : Data) → NoMore m n a b → NoMore m (size e + n) a (max (depth e) b)
+further_value e i = record { few = omega (arith, i.few); flat = omega (arith, i.flat) }
+
 -- a property has no more values than the object, and nests no deeper
-member_within : (k : List ℕ) (e : Data) (ms : Members) → get_member k ms ≡ Some e → NoMore (size e) (members_size ms) (depth e) (members_depth ms)
-member_within k e no_members h = cc
-member_within k e (member l d ms) h = elim (meets k l) [
-  | same f ↦ subst (λ x. NoMore (size x) (members_size (member l d ms)) (depth x) (members_depth (member l d ms))) (same_Some d e (sym (get_same k l d ms f) ∙ h)) record { few = omega arith; flat = omega arith }
-  | other apart ↦ (let rest = member_within k e ms (sym (get_other k l d ms apart) ∙ h) in record { few = omega (arith, rest.few); flat = omega (arith, rest.flat) })
-]
+member_within : (k : List ℕ) (e : Data) (ms : Members) → HasMember k e ms → NoMore (size e) (members_size ms) (depth e) (members_depth ms)
+member_within k e no_members there = absurd there
+member_within k e (member l d ms) (inl one) = subst (λ x. NoMore (size x) (size d + members_size ms) (depth x) (max (depth d) (members_depth ms))) (sym one.1) record { few = omega arith; flat = omega arith }
+member_within k e (member l d ms) (inr later) = further_value d (member_within k e ms later)
 
 -- an entry of a map is found by its name, and no later one is
 entry_alone : (front back : List Entry) (e : Entry) → NoClash (members_view (front ++ e ∷ back)) → (get_member (string_bytes e.0) (members_view (front ++ e ∷ back)) ≡ Some (view e.1)) × (get_member (string_bytes e.0) (members_view back) ≡ None)
@@ -84,16 +86,20 @@ pub record IsNext (done : Members) (s : Place) (k : List ℕ) (d : Data) (laid n
   pub put : put k (lay done (place_under s k) d (get_member k laid)) laid ≡ next
   pub part : size (lay done (place_under s k) d (get_member k laid)) ≤ members_size whole
 
-pub next_property : (done : Members) (s : Place) (front back whole : List Entry) (e : Entry) (base laid : Members) → whole ≡ front ++ e ∷ back → NoClash (members_view whole) → laid ≡ lay_members done s (members_view back) base → is_base_name s (string_bytes e.0) ≡ false
-    → IsNext done s (string_bytes e.0) (view e.1) laid (lay_members done s (members_view (e ∷ back)) base) (lay_members done s (members_view whole) base)
-next_property done s front back whole e base laid split apart is b =
-    let k = string_bytes e.0 in
+pub next_property : (done : Members) (s : Place) (front back whole : List Entry) (e : Entry) (k : List ℕ) (base laid : Members) → whole ≡ front ++ e ∷ back → NoClash (members_view whole) → laid ≡ lay_members done s (members_view back) base → k ≡ string_bytes e.0 → is_base_name s k ≡ false
+    → IsNext done s k (view e.1) laid (lay_members done s (members_view (e ∷ back)) base) (lay_members done s (members_view whole) base)
+next_property done s front back whole e k base laid split apart is named b =
     let d = view e.1 in
-    let (found, none) = entry_alone front back e (subst (λ es. NoClash (members_view es)) split apart) in
+    let alone = entry_alone front back e (subst (λ es. NoClash (members_view es)) split apart) in
+    let found : get_member k (members_view whole) ≡ Some d = ap (λ x. get_member x (members_view whole)) named ∙ ap (λ es. get_member (string_bytes e.0) (members_view es)) split ∙ alone.0 in
+    let none : get_member k (members_view back) ≡ None = ap (λ x. get_member x (members_view back)) named ∙ alone.1 in
     let below : get_member k laid ≡ get_member k base = ap (get_member k) is ∙ lay_members-absent done s k (members_view back) base none in
     record {
-      put = ap (λ x. put k (lay done (place_under s k) d x) laid) below ∙ ap (put k (lay done (place_under s k) d (get_member k base))) is ∙ sym (lay_members-first done s k d (members_view back) base b);
-      part = rw below (member_within k _ _ (lay_members-found done s k d (members_view whole) base b (ap (λ es. get_member k (members_view es)) split ∙ found))).few;
+      put = ap (λ x. put k (lay done (place_under s k) d x) laid) below
+          ∙ ap (put k (lay done (place_under s k) d (get_member k base))) is
+          ∙ sym (lay_members-first done s k d (members_view back) base b)
+          ∙ ap (λ l. lay_members done s (member l d (members_view back)) base) named;
+      part = rw below (member_within k _ _ (has_found k _ _ (lay_members-found done s k d (members_view whole) base b found))).few;
     }
 
 -- the base's entries with those of their names over them, and the new ones, are parts of the laid list
@@ -132,10 +138,6 @@ no_larger_object ms ns h = record { few = omega (arith, h.few); flat = omega (ar
 -- one value more on both sides
 pub next_value : {m n a b : ℕ} (d e : Data) → NoLarger d e → NoMore m n a b → NoMore (size d + m) (size e + n) (max (depth d) a) (max (depth e) b)
 next_value d e h i = record { few = omega (arith, h.few, i.few); flat = omega (arith, h.flat, i.flat) }
-
--- and on the other side alone
-pub further_value : {m n a b : ℕ} (e : Data) → NoMore m n a b → NoMore m (size e + n) a (max (depth e) b)
-further_value e i = record { few = omega (arith, i.few); flat = omega (arith, i.flat) }
 
 pub none_more : {n b : ℕ} → NoMore 0 n 0 b
 none_more = record { few = omega arith; flat = omega arith }
@@ -226,8 +228,8 @@ pub fits_below : (d e : Data) → NoLarger d e → Fits e → Fits d
 fits_below d e h (few, flat) = (omega (arith, h.few, few), (nests_deep d 32).1 (omega (arith, h.flat, (nests_deep e 32).0 flat)))
 
 -- a property of an object that fits does fit
-pub property_fits : (k : List ℕ) (e : Data) (ms : Members) → get_member k ms ≡ Some e → Fits (object ms) → Fits e
-property_fits k e ms h fits = let part = member_within k e ms h in fits_below e (object ms) (record { few = omega (arith, part.few); flat = omega (arith, part.flat) }) fits
+pub property_fits : (k : List ℕ) (e : Data) (ms : Members) → HasMember k e ms → Fits (object ms) → Fits e
+property_fits k e ms there fits = let part = member_within k e ms there in fits_below e (object ms) (record { few = omega (arith, part.few); flat = omega (arith, part.flat) }) fits
 
 -- a list of one item that is no larger than a list that fits
 pub item_fits : (e : Data) (ds : Items) → NoLargerItems (item e no_items) ds → Fits (array ds) → Fits e
@@ -287,11 +289,6 @@ item_depth no_items i e there = absurd cc
 item_depth (item d ds) zero e there = let same : d ≡ e = cc in subst (λ x. depth x ≤ items_depth (item d ds)) same (omega arith)
 item_depth (item d ds) (suc i) e there = omega (arith, item_depth ds i e there)
 
-member_depth : (ms : Members) (k : List ℕ) (e : Data) → HasMember k e ms → depth e ≤ members_depth ms
-member_depth no_members k e there = absurd there
-member_depth (member l d ms) k e (inl one) = subst (λ x. depth x ≤ members_depth (member l d ms)) (sym one.1) (omega arith)
-member_depth (member l d ms) k e (inr later) = omega (arith, member_depth ms k e later)
-
 nested_depth : (d : Data) → IsNested d → 0 < depth d
 nested_depth (array ds) nested = omega arith
 nested_depth (object ms) nested = omega arith
@@ -300,7 +297,7 @@ nested_depth _ nested = absurd nested
 led_depth : (path : List Step) (d found : Data) → LeadsTo path d found → IsNested found → length path < depth d
 led_depth [] d found is nested = nested_depth d (subst IsNested is nested)
 led_depth (index i ∷ path) d found (ds, e, is, there, leads) nested = rw is (omega (arith, item_depth ds i e there, led_depth path e found leads nested))
-led_depth (key k ∷ path) d found (ms, e, is, there, leads) nested = rw is (omega (arith, member_depth ms k e there, led_depth path e found leads nested))
+led_depth (key k ∷ path) d found (ms, e, is, there, leads) nested = rw is (omega (arith, (member_within k e ms there).flat, led_depth path e found leads nested))
 
 pub depth_excluded : (d : Data) (levels : ℕ) (flaw : Flaw) → nests d levels ≡ true → PassesDepth levels d flaw → ⊥
 depth_excluded d levels flaw h (kind, (found, leads, nested, steps)) = omega (arith, steps, (nests_deep d levels).0 h, led_depth flaw.path d found leads nested)

@@ -7,10 +7,10 @@ use Rattle.serde_json.proofs.Views.{items_len-items_view, view-Array}
 use Rattle.conf_tree.specs.{Flaw.{Flaw, here, Place as Step, key, index, within}, Walk.{refusal, HasMember}, declared.fault_kind.FaultKind.TheVariants.Limit}
 use Rattle.conf_table.specs.{declared.place.Place.Place, Table.{rows_of, entries_of, place_in, content_under}}
 use Rattle.conf_inherit.specs.FieldPlaces.{names_alias, names_member_type, lists_extra_members, place_under, place_of_items, is_entry, field_place, leads_on, lists_members}
-use Rattle.conf_inherit.specs.Flaws.{own_flaws, base_flaws, type_flaws, mark, inner_flaws, item_flaws, member_flaws, flaws}
-use Rattle.conf_inherit.specs.{Limits.limit_flaws, Places.{too_many, place_flaws, max_extra_members, inner_places, item_places, member_places}}
+use Rattle.conf_inherit.specs.Flaws.{own_flaws, base_flaws, mark, inner_flaws, item_flaws, member_flaws, flaws}
+use Rattle.conf_inherit.specs.{Places.{too_many, place_flaws, max_extra_members, inner_places, item_places, member_places}}
 use Rattle.conf_inherit.specs.Faults.{Leads, ListsTooMany}
-use Rattle.conf_inherit.proofs.{FaultLemmas.{same_part, part_empty, joined_empty}, FieldPlaceLemmas.ignored_under}
+use Rattle.conf_inherit.proofs.{FaultLemmas.{SoundAt, same_part, part_empty, joined_empty}, FieldPlaceLemmas.ignored_under}
 use Rattle.conf_inherit.proofs.{WorkedPlaces.{true_under, under_place}, LimitLemmas.{both_empty, fits_inside, sound_type}}
 use Rattle.conf_table.specs.declared.place.Place.TheVariants as places
 
@@ -29,23 +29,6 @@ no_entry_flaws al done places.Members v = refl
 no_entry_flaws al done places.ExtraMembers v = refl
 no_entry_flaws al done _ v = refl
 
-module _ (al done : Members) (s : Place) (v : Data) where
-  pub place_of_type : names_alias s ≡ true → place_flaws al done s v ≡ type_flaws al done s v
-  unfolding place_flaws
-  place_of_type h = rw h refl
-
-  pub place_of_member : names_alias s ≡ false → names_member_type s ≡ true → place_flaws al done s v ≡ limit_flaws done s v
-  unfolding place_flaws
-  place_of_member h i = rw (h, i) refl
-
-  pub place_of_list : names_alias s ≡ false → names_member_type s ≡ false → lists_extra_members s ≡ true → place_flaws al done s v ≡ too_many v ++ own_flaws al s false v
-  unfolding place_flaws
-  place_of_list h i j = rw (h, i, j) refl
-
-  pub place_of_other : names_alias s ≡ false → names_member_type s ≡ false → lists_extra_members s ≡ false → place_flaws al done s v ≡ []
-  unfolding place_flaws
-  place_of_other h i j = rw (h, i, j) refl
-
 -- The parts of a value without a flaw: none of them has one, and the entries of a members list have names of their own.
 
 module _ (al : Members) where
@@ -54,29 +37,23 @@ module _ (al : Members) where
   member_sound s seen (member l v ms) k d e (inl same) = rw (same.0, same.1) (joined_empty _ _ (part_empty (within (key l)) _ _ e).0).0
   member_sound s seen (member l v ms) k d e (inr later) = member_sound s seen ms k d (part_empty (within (key l)) _ _ e).1 later
 
-  -- a value has no flaw of its own, nor one inside
-  pub record SoundAt (s : Place) (v : Data) : Type 0 where
-    pub taken : Bool
-    pub seen : Members
-    pub sound : flaws al None s taken seen v ≡ []
-
-  pub sound_under : (s : Place) (ms : Members) (k : List ℕ) (d : Data) → SoundAt s (object ms) → HasMember k d ms → SoundAt (place_under s k) d
+  pub sound_under : (s : Place) (ms : Members) (k : List ℕ) (d : Data) → SoundAt al s (object ms) → HasMember k d ms → SoundAt al (place_under s k) d
   sound_under s ms k d h there = record { taken = is_entry s && is_some (get_member k h.seen); seen = no_members; sound = member_sound s h.seen ms k d (joined_empty _ _ h.sound).1 there }
 
-  item_sound : (s : Place) (i : ℕ) (seen : Members) (es : Items) (j : ℕ) (e : Data) → item_flaws al None s i seen es ≡ [] → get_item j es ≡ Some e → SoundAt (place_of_items s) e
+  item_sound : (s : Place) (i : ℕ) (seen : Members) (es : Items) (j : ℕ) (e : Data) → item_flaws al None s i seen es ≡ [] → get_item j es ≡ Some e → SoundAt al (place_of_items s) e
   item_sound s i seen no_items j e none there = absurd cc
   item_sound s i seen (item x es) zero e none there =
-      let mine : SoundAt (place_of_items s) x = record { taken = false; seen = seen; sound = (part_empty (within (index i)) _ _ none).0 } in
-      subst (SoundAt (place_of_items s)) (same_Some x e there) mine
+      let mine : SoundAt al (place_of_items s) x = record { taken = false; seen = seen; sound = (part_empty (within (index i)) _ _ none).0 } in
+      subst (SoundAt al (place_of_items s)) (same_Some x e there) mine
   item_sound s i seen (item x es) (suc j) e none there = item_sound s (suc i) (mark x seen) es j e (part_empty (within (index i)) _ _ none).1 there
 
-  pub sound_item : (s : Place) (es : Items) (i : ℕ) (e : Data) → SoundAt s (array es) → get_item i es ≡ Some e → SoundAt (place_of_items s) e
+  pub sound_item : (s : Place) (es : Items) (i : ℕ) (e : Data) → SoundAt al s (array es) → get_item i es ≡ Some e → SoundAt al (place_of_items s) e
   sound_item s es i e h there = item_sound s 0 no_members es i e (joined_empty _ _ h.sound).1 there
 
-  pub sound_along : (path : List Step) (s : Place) (v : Data) (t : Place) (w : Data) → SoundAt s v → Leads s v path t w → SoundAt t w
-  sound_along [] s v t w h (place, value) = subst (λ x. SoundAt x w) place (subst (SoundAt s) value h)
-  sound_along (key k ∷ path) s v t w h (ms, d, is, there, leads) = sound_along path (place_under s k) d t w (sound_under s ms k d (subst (SoundAt s) is h) there) leads
-  sound_along (index i ∷ path) s v t w h (es, d, is, there, leads) = sound_along path (place_of_items s) d t w (sound_item s es i d (subst (SoundAt s) is h) there) leads
+  pub sound_along : (path : List Step) (s : Place) (v : Data) (t : Place) (w : Data) → SoundAt al s v → Leads s v path t w → SoundAt al t w
+  sound_along [] s v t w h (place, value) = subst (λ x. SoundAt al x w) place (subst (SoundAt al s) value h)
+  sound_along (key k ∷ path) s v t w h (ms, d, is, there, leads) = sound_along path (place_under s k) d t w (sound_under s ms k d (subst (SoundAt al s) is h) there) leads
+  sound_along (index i ∷ path) s v t w h (es, d, is, there, leads) = sound_along path (place_of_items s) d t w (sound_item s es i d (subst (SoundAt al s) is h) there) leads
 
 -- In a tree that has a resolution no packet context lists too many extra members.
 
@@ -145,10 +122,9 @@ module _ (al done : Members) where
   few false e = refl
 
   extras_few : (es : Items) → place_flaws al done places.ExtraMembers (array es) ≡ [] → max_extra_members < items_len es → ⊥
-  unfolding too_many names_alias names_member_type lists_extra_members
+  unfolding too_many place_flaws names_alias names_member_type lists_extra_members
   extras_few es e many =
-      let told = sym (place_of_list al done places.ExtraMembers (array es) refl refl refl) ∙ e in
-      let short = ltb-false max_extra_members (items_len es) (few (nat_lt max_extra_members (items_len es)) (joined_empty (too_many (array es)) (own_flaws al places.ExtraMembers false (array es)) told).0) in
+      let short = ltb-false max_extra_members (items_len es) (few (nat_lt max_extra_members (items_len es)) (joined_empty (too_many (array es)) (own_flaws al places.ExtraMembers false (array es)) e).0) in
       omega (arith, short, many)
 
   pub root_place : (t : Data) → inner_places al done places.Root t ≡ [] → parts places.Root t ≡ []
@@ -244,12 +220,12 @@ module _ (al : Members) where
 module _ (al done : Members) where
   -- what stands at a place has no flaw of its own
   own_outside : (s : Place) (v : Data) → IsOutside s → names_alias s ≡ false → place_flaws al done s v ≡ [] → own_flaws al s false v ≡ []
-  unfolding lists_members is_entry names_alias names_member_type lists_extra_members leads_on
+  unfolding place_flaws lists_members is_entry names_alias names_member_type lists_extra_members leads_on
   own_outside places.FieldType v out no_type e = absurd (true≢false no_type)
   own_outside places.Members v out no_type e = absurd (true≢false (sym out))
   own_outside places.Entry v out no_type e = absurd (true≢false (sym out))
   own_outside places.Member v out no_type e = absurd (true≢false (sym out))
-  own_outside places.ExtraMembers v out no_type e = (joined_empty (too_many v) (own_flaws al places.ExtraMembers false v) (sym (place_of_list al done places.ExtraMembers v refl refl refl) ∙ e)).1
+  own_outside places.ExtraMembers v out no_type e = (joined_empty (too_many v) (own_flaws al places.ExtraMembers false v) e).1
   own_outside s v out no_type e = own_none al s v refl refl refl refl
 
   -- the extra members of a packet context
@@ -261,8 +237,9 @@ module _ (al done : Members) where
       both_empty _ _ (ap (map (within (index i))) (fits_inside done al x t false seen (joined_empty _ _ mine).0).0) (extras_sound es (suc i) (mark x seen) later)
 
   sound_value : (v : Data) (s : Place) → IsOutside s → parts al done s v ≡ [] → (names_alias s ≡ false → inner_flaws al None s no_members v ≡ []) → flaws al None s false no_members v ≡ []
-  sound_value v s out p inner = let own = (joined_empty _ _ p).0 in elim (cases_Bool (names_alias s)) [
-    | inl is ↦ ((sound_type done al s v).0 (sym (place_of_type al done s v is) ∙ own)).0
+  unfolding place_flaws
+  sound_value v s out p inner = let own : place_flaws al done s v ≡ [] = (joined_empty _ _ p).0 in elim (cases_Bool (names_alias s)) [
+    | inl is ↦ ((sound_type done al s v).0 (rw is at own)).0
     | inr no_type ↦ both_empty (own_flaws al s false v) (inner_flaws al None s no_members v) (own_outside s v out no_type own) (inner no_type)
   ]
 

@@ -1,6 +1,6 @@
 -- A property whose value is written anew.
-use Rattle.std.proofs.Common.{◌≡◌, ℕ, Some, None, List, [], ◌∷◌, string_cmp, string_bytes, nat_cmp, refl, sym, ap, ◌∙◌, ◌+◌, ◌≤◌, ◌&&◌, ◌||◌, ◌++◌, ◌⊎◌, inl, inr, suc, map, Option, is_some, Bool, true, false, not, true≢false, bytes_eq, if◌then◌else◌, is_eq, subst, arith, rules}
-use Rattle.std.proofs.{lemmas.Bool.{cases_Bool, or_left}, lemmas.Slice.Eq.bytes_eq-Decides, lemmas.Map.Text.is_eq-slice_cmp}
+use Rattle.std.proofs.Common.{◌≡◌, ℕ, Some, None, List, [], ◌∷◌, string_cmp, string_bytes, nat_cmp, refl, sym, ap, ◌∙◌, ◌+◌, ◌≤◌, ◌&&◌, ◌||◌, ◌++◌, ◌⊎◌, inl, inr, suc, map, Option, is_some, Bool, true, false, not, true≢false, bytes_eq, if◌then◌else◌, subst, arith, rules}
+use Rattle.std.proofs.{lemmas.Bool.{cases_Bool, or_left}, lemmas.Slice.Eq.bytes_eq-Decides}
 use Rattle.std.specs.{BTreeMap.is_at, Cmp.Lexicographic.slice_cmp, List.Sorted.IsStrictlySortedBy, Map.{keys_of, set_value}}
 use Rattle.serde_json.specs.{Data.{Data, member, put, null, array, object, Items, no_items, item, Members, no_members}, View.{view, members_view}}
 use Rattle.serde_json.specs.{Find.get_member, declared.value.Value.{Value, Null, the_lemmas}, Events.members_len}
@@ -8,10 +8,10 @@ use Rattle.serde_json.proofs.Views.{Entry}
 use Rattle.conf_inherit.specs.{Names.{AllAbove, NoClash}, Limits.{fitting, limit_flaws}, Named.{all_named, has}, Spent.{Spends, spent, TurnsLeave}}
 use Rattle.conf_inherit.specs.{FieldPlaces.{place_under, place_of_items, lists_extra_members, leads_on}, AliasFlaws.{over_names, alias_flaws, all_alias_flaws}}
 use Rattle.conf_inherit.specs.{Flaws.{flaws, type_flaws, mark}, Laying.lay, Places.{place_flaws, inner_places, item_places, member_places}}
-use Rattle.conf_inherit.specs.Rounds.{Outcomes, has_outcome, is_over, is_empty, if_fitting, outcome, step, round, rounds, no_outcomes, Reached, at_first, turned, is_settled, all_settled}
-use Rattle.conf_inherit.proofs.LayingLemmas.{above_of, above_through, get_none, Meets, same, other, meets, get_other, get_same, same_function, stands, some_is_none, found_each}
-use Rattle.conf_inherit.proofs.{RoundLemmas.{Agrees, round_reached, count}, LimitLemmas.{alike_own, alike_flaws, alike_in}}
-use Rattle.conf_inherit.proofs.{TurnLemmas.{step_agrees, round_agrees, round_grows, full_settled, turns_are_rounds, is_settled_state}, FaultLemmas.{same_part}}
+use Rattle.conf_inherit.specs.Rounds.{Outcomes, has_outcome, is_over, is_empty, if_fitting, outcome, step, round, rounds, no_outcomes, Reached, at_first, turned, all_settled}
+use Rattle.conf_inherit.proofs.LayingLemmas.{above_of, above_through, get_none, Meets, same, other, meets, get_other, get_same, same_function, stands, some_is_none, AllEntries, found_each}
+use Rattle.conf_inherit.proofs.{RoundLemmas.{Agrees, count}, LimitLemmas.{alike_own, alike_flaws, alike_in}}
+use Rattle.conf_inherit.proofs.{TurnLemmas.{none_of, IsSettled, step_agrees, round_grows, full_settled, turns_are_rounds, is_settled_state}, FaultLemmas.{same_part}}
 use Rattle.conf_tree.specs.Flaw.{key, index, within}
 use Rattle.conf_table.specs.declared.place.Place.{Place}
 use Rattle.conf_table.specs.declared.place.Place.TheVariants as places
@@ -67,8 +67,8 @@ spends_more done more kept _ _ h = absurd h
 -- the body of a resolved alias may be dropped
 spends_spent : (done : Members) (n : List ℕ) → has done n ≡ true → (al now : Members) → Spends done al now → Spends done al (spent n now)
 spends_spent done n is no_members no_members h = tt
-spends_spent done n is (member k w ms) (member j v vs) h = elim (cases_Bool (bytes_eq n j)) [
-  | inl e ↦ rw e (h.0, (inr (refl, ap (has done) (h.0 ∙ sym ((bytes_eq-Decides n j).0 e)) ∙ is), h.1.1))
+spends_spent done n is (member k w ms) (member j v vs) h = elim (cases_Bool (bytes_eq j n)) [
+  | inl e ↦ rw e (h.0, (inr (refl, ap (has done) (h.0 ∙ (bytes_eq-Decides j n).0 e) ∙ is), h.1.1))
   | inr e ↦ rw e (h.0, (h.1.0, spends_spent done n is ms vs h.1.1))
 ]
 spends_spent done n is _ _ h = absurd h
@@ -93,6 +93,18 @@ same_body done (member k w ms) (member j v vs) h n free = ap (λ l. get_member n
     go (same e) (inr is) later = absurd (true≢false (sym is.1 ∙ ap (has done) (sym e) ∙ free))
     go (other apart) at later = get_other n k v vs apart ∙ later ∙ sym (get_other n k w ms apart)
 same_body done _ _ h n free = absurd h
+
+-- as many are left, and no name twice
+spends_count : (done al now : Members) → Spends done al now → members_len now ≡ members_len al
+spends_count done no_members no_members h = refl
+spends_count done (member k w ms) (member j v vs) h = ap suc (spends_count done ms vs h.1.1)
+spends_count done _ _ h = absurd h
+
+spends_apart : (done al now : Members) → Spends done al now → NoClash al → NoClash now
+spends_apart done no_members no_members h apart = tt
+spends_apart done (member k w ms) (member j v vs) h apart =
+    (none_of (get_member j vs) (same_names done ms vs h.1.1 j ∙ ap (has ms) (sym h.0) ∙ ap is_some apart.0), spends_apart done ms vs h.1.1 apart.1)
+spends_apart done _ _ h apart = absurd h
 
 -- ---- what is judged by the names of the aliases alone
 
@@ -142,36 +154,6 @@ still_done st next agrees n h = ap is_some (agrees n (or_left (has st.done n) (h
 spent_same : {A : Type 0} (f : Data → A) (st : Outcomes) (k : List ℕ) (v w : Data) → (v ≡ w) ⊎ ((v ≡ null) × (has st.done k ≡ true)) → (has st.done k ≡ true → f v ≡ f w) → f v ≡ f w
 spent_same f st k v w (inl is) resolved = ap f is
 spent_same f st k v w (inr is) resolved = resolved is.1
-
-spent_step : (al : Members) (k j : List ℕ) (v w : Data) (st : Outcomes) → k ≡ j → (v ≡ w) ⊎ ((v ≡ null) × (has st.done k ≡ true)) → step al j v st ≡ step al k w st
-spent_step al k j v w st e at = ap (λ l. step al l v st) (sym e) ∙ spent_same (λ d. step al k d st) st k v w at (λ h. rw h refl)
-
--- a round over what is left of the aliases is one over the aliases
-spent_round : (al now : Members) → ((n : List ℕ) → is_some (get_member n now) ≡ is_some (get_member n al)) → (ms vs : Members) (st : Outcomes) → Spends st.done ms vs → round now vs st ≡ round al ms st
-spent_round al now names no_members no_members st h = refl
-spent_round al now names (member k w ms) (member j v vs) st h =
-    ap (round now vs) (same_step al now names j v st ∙ spent_step al k j v w st h.0 h.1.0)
-    ∙ spent_round al now names ms vs (step al k w st) (spends_more st.done (step al k w st).done (still_done st _ (step_agrees al k w st)) ms vs h.1.1)
-spent_round al now names _ _ st h = absurd h
-
-spent_settled : (al now : Members) → ((n : List ℕ) → is_some (get_member n now) ≡ is_some (get_member n al)) → (ms vs : Members) (st : Outcomes) → Spends st.done ms vs → all_settled now vs st ≡ all_settled al ms st
-spent_settled al now names no_members no_members st h = refl
-spent_settled al now names (member k w ms) (member j v vs) st h =
-    ap (λ t. (has_outcome st j || not t) && all_settled now vs st) (same_due al now names st v)
-    ∙ ap (λ l. is_settled al st l v && all_settled now vs st) (sym h.0)
-    ∙ spent_same (λ d. is_settled al st k d && all_settled now vs st) st k v w h.1.0 (λ is. rw is refl)
-    ∙ ap (λ t. is_settled al st k w && t) (spent_settled al now names ms vs st h.1.1)
-spent_settled al now names _ _ st h = absurd h
-
-same_round : (al now : Members) (st : Outcomes) → Spends st.done al now → round now now st ≡ round al al st
-same_round al now st h = spent_round al now (same_names st.done al now h) al now st h
-
-same_all_settled : (al now : Members) (st : Outcomes) → Spends st.done al now → all_settled now now st ≡ all_settled al al st
-same_all_settled al now st h = spent_settled al now (same_names st.done al now h) al now st h
-
--- what a round leaves of the aliases
-round_spends : (al now : Members) (st : Outcomes) → Spends st.done al now → Spends (round al al st).done al now
-round_spends al now st h = spends_more st.done (round al al st).done (still_done st _ (round_agrees al al st)) al now h
 
 -- ---- what is wrong with the aliases
 
@@ -223,39 +205,34 @@ spent_leaves al now k st is h = record { reached = h.reached; spends = spends_sp
 -- turns led here, with this left of the aliases, and each of so many rounds gave an outcome
 pub record RoundsLeave (al left : Members) (st : Outcomes) (n : ℕ) : Type 0 where
   pub turns : TurnsLeave al st left
-  pub few : n ≤ count (has_outcome st) al
+  pub few : n ≤ count (has_outcome st) left
+
+round_leaves : (al now ms : Members) (st : Outcomes) → AllEntries (λ k v. get_member k now ≡ Some v) ms → TurnsLeave al st now → TurnsLeave al (round now ms st) now
+round_leaves al now no_members st each h = h
+round_leaves al now (member k v ms) st each h = round_leaves al now ms (step now k v st) each.1 (turn_leaves al now k v st each.0 h)
 
 -- a round over what is left of the aliases
 pub rounds_more : (al left : Members) (st after : Outcomes) (n : ℕ) → NoClash al → RoundsLeave al left st n → all_settled left left st ≡ false → after ≡ round left left st → RoundsLeave al left after (n + 1)
 rounds_more al left st after n apart before waits went =
-    let spends = before.turns.spends in
-    let more = round_grows al st apart (sym (same_all_settled al left st spends) ∙ waits) in
-    subst (λ x. RoundsLeave al left x (n + 1)) (sym (went ∙ same_round al left st spends)) record {
-      turns = record { reached = round_reached al al st (found_each al apart) before.turns.reached; spends = round_spends al left st spends };
-      few = omega (arith, before.few, more);
-    }
+    let clear = spends_apart st.done al left before.turns.spends apart in
+    let more = round_grows left st clear waits in
+    subst (λ x. RoundsLeave al left x (n + 1)) (sym went) record { turns = round_leaves al left left st (found_each left clear) before.turns; few = omega (arith, before.few, more) }
+
+-- where none that is left is due, the outcomes are those of the rounds
+settled_rounds : (al left : Members) (st : Outcomes) → NoClash al → TurnsLeave al st left → IsSettled left st → st ≡ rounds al (members_len al) no_outcomes
+settled_rounds al left st apart turns settled = turns_are_rounds al apart turns.reached all
+  where
+    all : IsSettled al st
+    all k w is due = elim (cases_Bool (has st.done k)) [
+      | inl done ↦ or_left (has st.done k) (has st.refused k) done
+      | inr free ↦ settled k w (same_body st.done al left turns.spends k free ∙ is) (same_due al left (same_names st.done al left turns.spends) st w ∙ due)
+    ]
 
 -- as many rounds as there are aliases leave none due
 pub rounds_all : (al left : Members) (st : Outcomes) (n : ℕ) → NoClash al → RoundsLeave al left st n → members_len al ≡ n → st ≡ rounds al n no_outcomes
-rounds_all al left st n apart last len = turns_are_rounds al apart last.turns.reached (full_settled al st (omega (arith, len, last.few))) ∙ ap (λ m. rounds al m no_outcomes) len
+rounds_all al left st n apart last len =
+    settled_rounds al left st apart last.turns (full_settled left st (omega (arith, spends_count st.done al left last.turns.spends, len, last.few))) ∙ ap (λ m. rounds al m no_outcomes) len
 
--- where all is settled, no round is due
+-- so it is where all is settled
 pub rounds_done : (al left : Members) (st : Outcomes) (n : ℕ) → NoClash al → RoundsLeave al left st n → all_settled left left st ≡ true → st ≡ rounds al (members_len al) no_outcomes
-rounds_done al left st n apart before settled = turns_are_rounds al apart before.turns.reached (is_settled_state al st (sym (same_all_settled al left st before.turns.spends) ∙ settled))
-
--- ---- null is written in the place of a value
-
-pub written_spent : (n : List ℕ) (w : Value) (es : List Entry) → view w ≡ null → members_view (written n es w) ≡ spent n (members_view es)
-written_spent n w [] h = refl
-written_spent n w (e ∷ es) h = elim (cases_Bool (bytes_eq n (string_bytes e.0))) [
-  | inl is ↦ (let at : is_eq (slice_cmp nat_cmp n (string_bytes e.0)) ≡ true = is_eq-slice_cmp n (string_bytes e.0) ∙ is in rw (at, is) (ap (λ d. member (string_bytes e.0) d (members_view es)) h))
-  | inr is ↦ (let at : is_eq (slice_cmp nat_cmp n (string_bytes e.0)) ≡ false = is_eq-slice_cmp n (string_bytes e.0) ∙ is in rw (at, is) (ap (member (string_bytes e.0) (view e.1)) (written_spent n w es h)))
-]
-
--- a name that is not there
-pub spent_none : (n : List ℕ) (ms : Members) → get_member n ms ≡ None → spent n ms ≡ ms
-spent_none n no_members h = refl
-spent_none n (member k d ms) h = elim (cases_Bool (bytes_eq n k)) [
-  | inl is ↦ (let f : Some d ≡ None = sym (get_same n k d ms ((bytes_eq-Decides n k).0 is)) ∙ h in cc)
-  | inr is ↦ rw is (ap (member k d) (spent_none n ms (sym (get_other n k d ms (λ e. true≢false (sym ((bytes_eq-Decides n k).1 e) ∙ is))) ∙ h)))
-]
+rounds_done al left st n apart before settled = settled_rounds al left st apart before.turns (is_settled_state left st settled)

@@ -1,22 +1,26 @@
 -- The aliases of a configuration: that each was resolved as it is laid, and is sound.
-use Rattle.std.proofs.Common.{string_bytes, is_eq, ◌≡◌, ◌++◌, ℕ, List, [], map, Option, Some, None, Result, Ok, Err, is_some, true, false, true≢false, refl, sym, ap, ◌∙◌, subst, inl, inr, if◌then◌else◌, ◌∷◌, option_and_then, nat_cmp}
-use Rattle.std.proofs.{lemmas.Bool.{cases_Bool, or_left}, lemmas.Slice.Eq.bytes_eq-Decides, lemmas.Map.Text.is_eq-slice_cmp, lemmas.Option.same_Some}
-use Rattle.std.specs.{Prelude.⊤, Str.bytes_eq, Cmp.Lexicographic.slice_cmp}
-use Rattle.serde_json.specs.{Data.{Data, null, object, Members, no_members, member}, declared.value.Value.Value}
+use Rattle.std.proofs.Common.{string_bytes, is_eq, ◌≡◌, ◌++◌, ℕ, List, [], map, Option, Some, None, Result, Ok, Err, is_some, true, false, true≢false, refl, sym, ap, ◌∙◌, subst, inl, inr, if◌then◌else◌, ◌∷◌, option_and_then, nat_cmp, ◌⊎◌, suc}
+use Rattle.std.proofs.{lemmas.Bool.{cases_Bool, or_left}, lemmas.Slice.Eq.{bytes_eq-Decides}, lemmas.Map.Text.{is_eq-slice_cmp}, lemmas.Option.{same_Some}}
+use Rattle.std.proofs.lemmas.Result.{err_from_is_err_and}
+use Rattle.std.specs.{Prelude.{⊤}, Str.{bytes_eq}, Cmp.Lexicographic.{slice_cmp}, Result.{IsErrAnd}}
+use Rattle.serde_json.specs.{Data.{Data, null, object, Members, no_members, member, string, array, put}, declared.value.Value.{Value}}
 use Rattle.serde_json.specs.{Find.{get_member, get, as_object}, View.{view, members_view}}
 use Rattle.serde_json.proofs.Views.{Entry}
-use Rattle.conf_tree.specs.{Flaw.{Flaw, key, within}, Walk.refusal, Reading.◌>>=◌}
-use Rattle.conf_table.specs.{declared.place.Place.Place, Table.{rows_of, entries_of, content_under, place_in}}
-use Rattle.conf_inherit.specs.{AliasFlaws.all_alias_flaws, Flaws.type_flaws, Limits.limit_flaws, Names.NoClash, Spent.Spends}
-use Rattle.conf_inherit.specs.{Laying.{lay, lay_base, lay_members}, Whole.{AreLaid, at_way, with_property, in_property, in_object, with_object, with_aliases}}
-use Rattle.conf_inherit.specs.{Named.has, FieldPlaces.{field_place, place_under, names_alias, is_base_name, lists_extra_members, leads_on, names_member_type}}
+use Rattle.conf_tree.specs.{Flaw.{Flaw, key, within, flaw_of, IsMemory}, Walk.{refusal}, Reading.{◌>>=◌, Gives}, declared.fault.ConfFault.{ConfFault}}
+use Rattle.conf_table.specs.declared.place.Place.TheVariants as places
+use Rattle.conf_table.specs.{declared.place.Place.{Place}, Table.{rows_of, entries_of, content_under, place_in}}
+use Rattle.conf_inherit.specs.{AliasFlaws.{all_alias_flaws}, Flaws.{type_flaws}, Limits.{limit_flaws}, Names.{NoClash}, Spent.{Spends}}
+use Rattle.conf_inherit.specs.Laying.{lay, lay_base, lay_members, lay_text}
+use Rattle.conf_inherit.specs.{Whole.{AreLaid, at_way, with_property, in_property, in_object, with_object, with_aliases}, Named.{has}}
+use Rattle.conf_inherit.specs.FieldPlaces.{field_place, place_under, names_alias, is_base_name, lists_extra_members, leads_on, names_member_type, lists_members}
 use Rattle.conf_inherit.specs.{Places.{place_flaws, inner_places, member_places}, Rounds.{Outcomes, has_outcome, outcome, rounds, no_outcomes, Reached}}
 use Rattle.conf_inherit.specs.Resolution.{trace_name, type_name, aliases_name, from_aliases, aliases_of, members_or_none, if_shallow, resolution_after}
+use Rattle.conf_inherit.specs.Nesting.{members_nest, deep_flaws, deep_member_flaws}
 use Rattle.conf_inherit.proofs.FieldPlaceLemmas.{trace_place, trace_type_place, aliases_place}
-use Rattle.conf_inherit.proofs.LayingLemmas.{differs, cases_Option, same_members, in_order_lay, lay_members-absent, lay_members-found, same, other, meets, get_other, get_same, AllEntries, all_along, found_each}
-use Rattle.conf_inherit.proofs.{LimitLemmas.fitting_value, SoundPlaces.{parts, place_of_type}, RoundLemmas.{no_flaws, sound_of, outcome_is, all_done, rounds_reached}}
-use Rattle.conf_inherit.proofs.{FaultLemmas.some_of, TurnLemmas.reached_sound, SpentLemmas.{written, same_names, same_alias_flaws, same_places}}
-use Rattle.conf_table.specs.declared.place.Place.TheVariants as places
+use Rattle.conf_inherit.proofs.LayingLemmas.{differs, cases_Option, same_members, in_order_lay, lay_members-absent, lay_members-found, same, other, meets, get_other, get_same, AllEntries, all_along, found_each, equal_names, lay_members-first, apart_greater, stands}
+use Rattle.conf_inherit.proofs.{LimitLemmas.{fitting_value}, SoundPlaces.{parts}}
+use Rattle.conf_inherit.proofs.{RoundLemmas.{no_flaws, sound_of, outcome_is, all_done, rounds_reached}, FaultLemmas.{some_of}, TurnLemmas.{reached_sound}}
+use Rattle.conf_inherit.proofs.{SpentLemmas.{written, same_names, same_alias_flaws, same_places}, SizeLemmas.{nests_shallow}}
 
 -- ---- an object that has the aliases in it
 
@@ -87,8 +91,8 @@ no_places al done null = refl
 no_places al done _ = refl
 
 sound_place : (al done : Members) (k : List ℕ) (w : Data) → type_flaws al done places.FieldType w ≡ [] → (place_flaws al done (place_under places.FieldTypeAliases k) w ++ inner_places al done (place_under places.FieldTypeAliases k) w) ≡ []
-unfolding place_under content_under entries_of rows_of place_in field_place names_alias
-sound_place al done k w sound = ap (λ fs. fs ++ inner_places al done places.FieldType w) (place_of_type al done places.FieldType w refl ∙ sound) ∙ no_places al done w
+unfolding place_flaws place_under content_under entries_of rows_of place_in field_place names_alias
+sound_place al done k w sound = ap (λ fs. fs ++ inner_places al done places.FieldType w) sound ∙ no_places al done w
 
 sound_places : (al done ms : Members) → AllEntries (λ k w. type_flaws al done places.FieldType w ≡ []) ms → member_places al done places.FieldTypeAliases ms ≡ []
 sound_places al done no_members each = refl
@@ -277,3 +281,124 @@ module _ (al now : Members) (n : ℕ) (st : Outcomes) (v : Data) (bare : with_al
 
     pub aliases_laid : AreLaid st.done al
     aliases_laid = whole_laid al n st apart settled (alias_fault ∙ sound)
+
+-- The resolved aliases, put into what the rest of a configuration is laid to.
+
+-- ---- the value of one name, where another is put
+
+put_here : (n k : List ℕ) (g : Data → Data) (x : Data) (ms : Members) → bytes_eq k n ≡ true → with_property n g (put k x ms) ≡ put k (g x) ms
+put_here n k g x no_members at = rw at refl
+put_here n k g x (member l e ms) at =
+    let same : k ≡ n = (bytes_eq-Decides k n).0 at in
+    elim (stands k l) [
+      | inl is ↦ rw (is, at) refl
+      | inr (inl is) ↦ (let mine : bytes_eq l n ≡ true = (bytes_eq-Decides l n).1 (sym (equal_names k l is) ∙ same) in rw (is, mine) refl)
+      | inr (inr is) ↦ (let away : bytes_eq l n ≡ false = differs l n (λ e. apart_greater k l is (same ∙ sym e)) in rw (is, away) (ap (member l e) (put_here n k g x ms at)))
+    ]
+
+put_beside : (n k : List ℕ) (g : Data → Data) (x : Data) (ms : Members) → bytes_eq k n ≡ false → with_property n g (put k x ms) ≡ put k x (with_property n g ms)
+put_beside n k g x no_members away = rw away refl
+put_beside n k g x (member l e ms) away = elim (cases_Bool (bytes_eq l n)) [
+  | inl at ↦ elim (stands k l) [
+    | inl is ↦ rw (at, is, away, at) refl
+    | inr (inl is) ↦ absurd (true≢false (sym at ∙ ap (λ m. bytes_eq m n) (sym (equal_names k l is)) ∙ away))
+    | inr (inr is) ↦ rw (at, is, at) refl
+  ]
+  | inr at ↦ elim (stands k l) [ inl is ↦ rw (at, is, away, at) refl | inr (inl is) ↦ rw (at, is, at) refl | inr (inr is) ↦ rw (at, is, at) (ap (member l e) (put_beside n k g x ms away)) ]
+]
+
+-- ---- what is laid
+
+text_stays : (done : Members) (s : Place) (n : List ℕ) → leads_on s ≡ true → lay_text done s n ≡ string n
+unfolding leads_on names_alias names_member_type
+text_stays done places.FieldType n h = absurd (true≢false (sym h))
+text_stays done places.Member n h = absurd (true≢false (sym h))
+text_stays done _ n h = refl
+
+no_list : (s : Place) → leads_on s ≡ true → lists_members s ≡ false
+unfolding leads_on lists_members
+no_list places.Members h = absurd (true≢false (sym h))
+no_list places.ExtraMembers h = absurd (true≢false (sym h))
+no_list _ h = refl
+
+module _ (done : Members) (s : Place) (above : leads_on s ≡ true) where
+  module _ (n : List ℕ) (f g : Data → Data) (each : (d : Data) → lay done (place_under s n) (f d) None ≡ g (lay done (place_under s n) d None)) where
+    members_with : (ms : Members) → lay_members done s (with_property n f ms) no_members ≡ with_property n g (lay_members done s ms no_members)
+    members_with no_members = refl
+    members_with (member k d ms) =
+        let laid = lay done (place_under s k) d None in
+        let rest = lay_members done s ms no_members in
+        let first : (e : Data) (xs : Members) → lay_members done s (member k e xs) no_members ≡ put k (lay done (place_under s k) e None) (lay_members done s xs no_members) = λ e xs. lay_members-first done s k e xs no_members (no_base s k above) in
+        elim (cases_Bool (bytes_eq k n)) [
+          | inl is ↦ (let one : lay done (place_under s k) (f d) None ≡ g laid = subst (λ x. lay done (place_under s x) (f d) None ≡ g (lay done (place_under s x) d None)) (sym ((bytes_eq-Decides k n).0 is)) (each d) in
+              rw is (first (f d) ms ∙ ap (λ x. put k x rest) one ∙ sym (put_here n k g laid rest is) ∙ ap (with_property n g) (sym (first d ms))))
+          | inr is ↦ rw is (first d (with_property n f ms) ∙ ap (put k laid) (members_with ms) ∙ sym (put_beside n k g laid rest is) ∙ ap (with_property n g) (sym (first d ms)))
+        ]
+
+    value_with : (v : Data) → lay done s (in_property n f v) None ≡ in_property n g (lay done s v None)
+    value_with (object ms) = laid_object done s (with_property n f ms) above ∙ ap object (members_with ms) ∙ ap (in_property n g) (sym (laid_object done s ms above))
+    value_with (array es) = rw (no_list s above) refl
+    value_with (string x) = rw (text_stays done s x above) refl
+    value_with _ = refl
+
+  object_with : (al : Members) (v : Data) → lay done s (in_object al v) None ≡ in_object (lay_members done s al no_members) (lay done s v None)
+  object_with al (object ms) = laid_object done s al above
+  object_with al (array es) = rw (no_list s above) refl
+  object_with al (string x) = rw (text_stays done s x above) refl
+  object_with al _ = refl
+
+-- a configuration with other aliases is laid to what it is laid to, with those laid
+whole_with : (done al : Members) (v : Data) → lay done places.Root (with_aliases al v) None ≡ with_aliases (lay_members done places.FieldTypeAliases al no_members) (lay done places.Root v None)
+unfolding leads_on
+whole_with done al v = on_way (λ s f g. (d : Data) → lay done s (f d) None ≡ g (lay done s d None)) al (lay_members done places.FieldTypeAliases al no_members)
+    (object_with done places.FieldTypeAliases refl al) (λ s n f g above each. value_with done s above n f g each) v
+
+-- the resolved ones in their place
+laid_with : (done al : Members) (v : Data) → AreLaid done al → lay done places.Root (with_aliases al v) None ≡ with_aliases done (lay done places.Root v None)
+laid_with done al v laid = whole_with done al v ∙ ap (λ ms. with_aliases ms (lay done places.Root v None)) (sym laid)
+
+-- without aliases it is laid to what has none
+laid_bare : (done : Members) (v : Data) → with_aliases no_members v ≡ v → with_aliases no_members (lay done places.Root v None) ≡ lay done places.Root v None
+laid_bare done v bare = sym (whole_with done no_members v) ∙ ap (λ d. lay done places.Root d None) bare
+
+-- ---- what is too deep
+
+module _ (n : List ℕ) (f g : Data → Data) (levels : ℕ) (each : (d : Data) → deep_flaws (f d) levels ≡ deep_flaws (g d) levels) where
+  members_deep : (ms : Members) → deep_member_flaws (with_property n f ms) levels ≡ deep_member_flaws (with_property n g ms) levels
+  members_deep no_members = refl
+  members_deep (member k d ms) = elim (cases_Bool (bytes_eq k n)) [
+    | inl is ↦ rw is (ap (λ fs. map (within (key k)) fs ++ deep_member_flaws ms levels) (each d))
+    | inr is ↦ rw is (ap (λ fs. map (within (key k)) (deep_flaws d levels) ++ fs) (members_deep ms))
+  ]
+
+  value_deep : (v : Data) → deep_flaws (in_property n f v) (suc levels) ≡ deep_flaws (in_property n g v) (suc levels)
+  value_deep (object ms) = members_deep ms
+  value_deep _ = refl
+
+shallow_put : (done : Members) (v : Data) → members_nest done 28 ≡ true → deep_flaws (with_aliases done v) 32 ≡ deep_flaws (with_aliases no_members v) 32
+unfolding with_aliases
+shallow_put done v shallow =
+    value_deep trace_name (in_property type_name (in_property aliases_name (in_object done))) (in_property type_name (in_property aliases_name (in_object no_members))) 31
+    (value_deep type_name (in_property aliases_name (in_object done)) (in_property aliases_name (in_object no_members)) 30
+    (value_deep aliases_name (in_object done) (in_object no_members) 29 theirs)) v
+  where
+    theirs : (d : Data) → deep_flaws (in_object done d) 29 ≡ deep_flaws (in_object no_members d) 29
+    theirs (object ms) = nests_shallow (object done) 29 shallow
+    theirs _ = refl
+
+-- what is asked is the resolved aliases in what the rest was laid to
+pub asked : (done al : Members) (v laid : Data) → laid ≡ lay done places.Root v None → AreLaid done al → if_shallow (lay done places.Root (with_aliases al v) None) ≡ if_shallow (with_aliases done laid)
+asked done al v laid is are_laid = ap if_shallow (laid_with done al v are_laid ∙ ap (with_aliases done) (sym is))
+
+-- where shallow aliases are put, what is too deep is so without them
+pub shallow_asked : (done al : Members) (v laid : Data) → laid ≡ lay done places.Root v None → AreLaid done al → members_nest done 28 ≡ true → with_aliases no_members v ≡ v
+    → if_shallow (lay done places.Root (with_aliases al v) None) ≡ (refusal (deep_flaws laid 32) >>= (λ a. Ok (with_aliases done laid)))
+shallow_asked done al v laid is are_laid shallow bare =
+    let none = ap (with_aliases no_members) is ∙ laid_bare done v bare ∙ sym is in
+    asked done al v laid is are_laid ∙ ap (λ fs. refusal fs >>= (λ a. Ok (with_aliases done laid))) (shallow_put done laid shallow ∙ ap (λ d. deep_flaws d 32) none)
+
+-- what a part refuses, the whole does
+pub refuses : {A B C : Type 0} (seen : A → B) (r : Result A ConfFault) (fault : ConfFault) (read : Result C Flaw) (next : C → Result B Flaw) (answer : Result B Flaw) → IsErrAnd r (λ y. y ≡ fault) → answer ≡ (read >>= next) → IsMemory fault ⊎ (read ≡ Err (flaw_of fault)) → Gives seen r answer
+refuses seen r fault read next answer returned is h =
+    let p = err_from_is_err_and r returned in
+    rw (p.1, p.2) (elim h [ inl memory ↦ inl memory | inr flawed ↦ inr (is ∙ ap (λ x. x >>= next) flawed) ])

@@ -22,7 +22,7 @@ abbrev pub mark_of : Option Data → Option Data
 mark_of None = Some null
 mark_of (Some r) = None
 
-none_of : (o : Option Data) → is_some o ≡ false → o ≡ None
+pub none_of : (o : Option Data) → is_some o ≡ false → o ≡ None
 none_of None h = refl
 none_of (Some x) h = absurd (true≢false h)
 

@@ -3,7 +3,7 @@ use Rattle.std.specs.Prelude.{◌≡◌, ◌⊎◌, ℕ, zero, suc, List, Some}
 use Rattle.serde_json.specs.{Data.{Data, string, array, object, Items, no_items, item, Members, no_members, member}, Find.get_member}
 use Rattle.conf_table.specs.declared.place.Place.{Place}
 use Rattle.conf_table.specs.declared.place.Place.TheVariants as places
-use Rattle.conf_inherit.specs.{FieldPlaces.{place_under, place_of_items}, Ready.Names}
+use Rattle.conf_inherit.specs.{FieldPlaces.{place_under, place_of_items}, Named.Names}
 
 abbrev mutual
   -- a value names the alias, itself or anywhere in it

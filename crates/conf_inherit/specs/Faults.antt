@@ -5,8 +5,8 @@ use Rattle.conf_tree.specs.{Flaw.{Flaw, Place as Step, key, index}, Walk.HasMemb
 use Rattle.conf_tree.specs.declared.fault_kind.FaultKind.TheVariants.{WrongKind, NoSuchAlias, InheritCycle, NameClash, Limit}
 use Rattle.conf_table.specs.declared.place.Place.{Place}
 use Rattle.conf_inherit.specs.{FieldPlaces.{place_under, place_of_items, lists_members, lists_extra_members}, Circle.Walks, Flaws.{is_wrong, is_unknown}}
-use Rattle.conf_inherit.specs.{Looks.AreResolved, Places.max_extra_members, Ready.Names, Nesting.PassesDepth, Resolution.{aliases_of, Resolves}, Laying.lay}
-use Rattle.conf_inherit.specs.{Limits.Exceeds, Named.{all_named, has}}
+use Rattle.conf_inherit.specs.{Looks.AreResolved, Places.max_extra_members, Nesting.PassesDepth, Resolution.{aliases_of, Resolves}, Laying.lay}
+use Rattle.conf_inherit.specs.{Limits.Exceeds, Named.{Names, all_named, has}}
 use Rattle.conf_table.specs.declared.place.Place.TheVariants as places
 
 -- the path leads from the value v at the place s to the value w at the place t

@@ -3,7 +3,6 @@ pub mod Names
 pub mod Looks
 pub mod Laying
 pub mod EntryIndex
-pub mod Ready
 pub mod Named
 pub mod Size
 pub mod Nesting

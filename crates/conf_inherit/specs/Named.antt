@@ -1,5 +1,5 @@
 -- The names of aliases in a value.
-use Rattle.std.specs.Prelude.{◌&&◌, ◌||◌, ℕ, List, Bool, true, not, is_some}
+use Rattle.std.specs.Prelude.{◌≡◌, ◌⊎◌, ◌&&◌, ◌||◌, ℕ, List, Bool, true, not, is_some}
 use Rattle.serde_json.specs.{Data.{Data, string, array, object, Items, no_items, item, Members, no_members, member}, Find.get_member}
 use Rattle.conf_table.specs.declared.place.Place.{Place}
 use Rattle.conf_inherit.specs.FieldPlaces.{place_under, place_of_items, names_alias, names_member_type}
@@ -19,6 +19,10 @@ abbrev mutual
   pub all_named_in_members : (List ℕ → Bool) → Place → Members → Bool
   all_named_in_members p s no_members = true
   all_named_in_members p s (member k d ms) = all_named p (place_under s k) d && all_named_in_members p s ms
+
+-- a text at this place names an alias
+abbrev pub Names : Place → Type 0
+Names s = (names_alias s ≡ true) ⊎ (names_member_type s ≡ true)
 
 -- one of the members has the name
 abbrev pub has : Members → List ℕ → Bool

@@ -1,8 +1,8 @@
 -- The aliases while they are resolved. The body of a resolved alias is never read again, so null may stand in its
 -- place: of such an alias only the name is asked.
-use Rattle.std.specs.{Prelude.{◌≡◌, ◌⊎◌, ℕ, List, true, if◌then◌else◌}, Str.bytes_eq}
+use Rattle.std.specs.Prelude.{◌≡◌, ◌⊎◌, ℕ, List, true}
 use Rattle.serde_json.specs.Data.{null, Members, no_members, member}
-use Rattle.conf_inherit.specs.{Named.has, Rounds.{Outcomes, Reached}}
+use Rattle.conf_inherit.specs.{Named.has, Rounds.{Outcomes, Reached}, Whole.with_property}
 
 -- what is left of the aliases `al`: each name, and its body or, where it is resolved, null
 abbrev pub Spends : Members → Members → Members → Type 0
@@ -13,8 +13,7 @@ Spends done (member k w ms) (member j v vs) = (k ≡ j) × (((v ≡ w) ⊎ ((v �
 
 -- the members with null in the place of the value of a name
 abbrev pub spent : List ℕ → Members → Members
-spent n no_members = no_members
-spent n (member k d ms) = if bytes_eq n k then member k null ms else member k d (spent n ms)
+spent n ms = with_property n (λ d. null) ms
 
 -- turns of the aliases `al` led to these outcomes, and left this of the aliases
 pub record TurnsLeave (al : Members) (st : Outcomes) (left : Members) : Type 0 where

@@ -124,16 +124,10 @@ fn lay_properties(
 {
     let mut laid = below;
     for (name, value) in members.iter().rev() {
-        if !is_base_name(place, name.as_str()) {
-            let base = take_property(&mut laid, name.as_str());
-            let over = lay(
-                alloc,
-                place_under(place, name.as_str()),
-                value,
-                base,
-                aliases,
-                limit,
-            )?;
+        let key = name.as_str();
+        if !is_base_name(place, key) {
+            let base = take_property(&mut laid, key);
+            let over = lay(alloc, place_under(place, key), value, base, aliases, limit)?;
             put_property(&mut laid, name, over)?;
         }
     }

@@ -2,7 +2,7 @@ use Rattle.std.proofs.Common.{Ok, ap, sym, ◌∙◌}
 use Rattle.serde_json.specs.View.{view, members_view}
 use Rattle.conf_tree.specs.Reading.{◌>>=◌}
 use Rattle.conf_inherit.specs.{Resolution.if_shallow, Whole.with_aliases}
-use Rattle.conf_inherit.proofs.PutLemmas.{asked, shallow_asked, refuses}
+use Rattle.conf_inherit.proofs.TakenLemmas.{asked, shallow_asked, refuses}
 use Rattle.conf_inherit.proofs.resolution.lay_all.Goals as goal
 
 pub returns-in_err-check_nesting : goal.returns-in_err-check_nesting

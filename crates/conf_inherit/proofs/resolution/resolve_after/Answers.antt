@@ -2,7 +2,7 @@ use Rattle.std.proofs.Common.{Err, sym, ap, ◌∙◌, subst, inl, inr}
 use Rattle.serde_json.specs.View.{view, members_view}
 use Rattle.conf_tree.specs.{Flaw.flaw_of, Reading.{◌>>=◌, Gives}}
 use Rattle.conf_inherit.specs.{AliasOutcomes.outcomes_of, Resolution.{in_aliases, from_aliases}}
-use Rattle.conf_inherit.proofs.{PutLemmas.refuses, TakenLemmas.{refused_alias, aliases_laid, then_laid, after_places}}
+use Rattle.conf_inherit.proofs.{TakenLemmas.{refuses, refused_alias, aliases_laid, then_laid, after_places}}
 use Rattle.conf_inherit.proofs.resolution.resolve_after.Goals as goal
 
 pub returns-in-Err : goal.returns-in-Err
