@@ -7,7 +7,7 @@ use Rattle.serde_json.specs.declared.value.Value.{Value}
 use Rattle.serde_json.proofs.Views.{get_item_within, get_item_past}
 use Rattle.conf_inherit.specs.EntryIndex.{HasPlaces, place_at, place_if, place_from, lower, lowest}
 use Rattle.conf_inherit.specs.{Laying.{has_entry, lay_over, lay_over_entry, lay_over_member}, Names.{entries_of, properties_of}}
-use Rattle.conf_inherit.proofs.LayingLemmas.{over_entries, same_function, some_is_none, cases_Option, get_first, same, other, meets, get_other, get_same, differs}
+use Rattle.conf_inherit.proofs.LayingLemmas.{over_entry, over_entries, same_function, some_is_none, cases_Option, get_first, same, other, meets, get_other, get_same, differs}
 
 -- ---- the first place of a name
 
@@ -89,50 +89,48 @@ lowest_here e es (member n d ms) h = elim (cases_Bool (is_some (get n e))) [
   | inr is ↦ rw is (ap (λ o. lower o (lowest (λ n. place_from 0 n (item e es)) ms)) (place_later 0 n es) ∙ ap (lower (option_map suc (place_from 0 n es))) (lowest_here e es ms (rw is at h)) ∙ lower_second (place_from 0 n es))
 ]
 
-unshared : (n : List ℕ) (bs : Members) (e : Data) → shares bs e ≡ false → is_some (get n e) ≡ true → get_member n bs ≡ None
-unshared n no_members e h is = refl
-unshared n (member l d bs) e h is =
-    let parts = or_parts (is_some (get l e)) (shares bs e) h in
-    elim (meets n l) [ same x ↦ absurd (true≢false (sym is ∙ ap (λ k. is_some (get k e)) x ∙ parts.0)) | other apart ↦ get_other n l d bs apart ∙ unshared n bs e parts.1 is ]
+none_shared : (b : Data) → ((n : List ℕ) → get n b ≡ None) → (ms : Members) → shares ms b ≡ false
+none_shared b none no_members = refl
+none_shared b none (member n d ms) = let f : is_some (get n b) ≡ false = ap is_some (none n) in rw f (none_shared b none ms)
 
-still_there : (n l : List ℕ) (d : Data) (ms : Members) → is_some (get_member n ms) ≡ true → is_some (get_member n (member l d ms)) ≡ true
-still_there n l d ms h = elim (meets n l) [ same x ↦ ap is_some (get_same n l d ms x) | other apart ↦ ap is_some (get_other n l d ms apart) ∙ h ]
+shares_more : (n : List ℕ) (d : Data) (ms bs : Members) → shares bs (object (member n d ms)) ≡ (is_some (get_member n bs) || shares bs (object ms))
+shares_more n d ms no_members = refl
+shares_more n d ms (member l x bs) = elim (meets n l) [
+  | same e ↦ (let here = get_same l n d ms (sym e) in let there = get_same n l x bs e in rw (here, there) refl)
+  | other apart ↦ (let here = get_other l n d ms (λ e. apart (sym e)) in let there = get_other n l x bs apart in
+      rw (here, there, shares_more n d ms bs) (swapped (is_some (get_member l ms)) (is_some (get_member n bs)) (shares bs (object ms))))
+]
+  where
+    swapped : (a b c : Bool) → (a || (b || c)) ≡ (b || (a || c))
+    swapped true true c = refl
+    swapped true false c = refl
+    swapped false b c = refl
+
+-- what an object's names share with an entry, the entry's share with the object
+shares_turned : (ms bs : Members) → shares ms (object bs) ≡ shares bs (object ms)
+shares_turned no_members bs = sym (none_shared (object no_members) (λ n. refl) bs)
+shares_turned (member n d ms) bs = ap (λ t. is_some (get_member n bs) || t) (shares_turned ms bs) ∙ sym (shares_more n d ms bs)
+
+shares_entry : (e : Data) (bs : Members) → shares (properties_of e) (object bs) ≡ shares bs e
+shares_entry (object ms) bs = shares_turned ms bs
+shares_entry _ bs = sym (none_shared _ (λ n. refl) bs)
 
 -- where no name is shared, what comes later is laid
-passed_members : (done bs : Members) (e : Data) (ms : Members) (rest : Data) → shares bs e ≡ false → ((n : List ℕ) → is_some (get_member n ms) ≡ true → is_some (get n e) ≡ true)
-    → lay_over_member done ms (object bs) rest ≡ rest
-passed_members done bs e no_members rest h inc = refl
-passed_members done bs e (member n d ms) rest h inc =
-    let none : is_some (get_member n bs) ≡ false = ap is_some (unshared n bs e h (inc n (ap is_some (get_first n d ms)))) in
-    rw none (passed_members done bs e ms rest h (λ m x. inc m (still_there m n d ms x)))
+passed_members : (done ms : Members) (b rest : Data) → shares ms b ≡ false → lay_over_member done ms b rest ≡ rest
+passed_members done no_members b rest h = refl
+passed_members done (member n d ms) b rest h = let (none, later) = or_parts (is_some (get n b)) (shares ms b) h in rw none (passed_members done ms b rest later)
 
 passed : (done bs : Members) (e rest : Data) → shares bs e ≡ false → lay_over_entry done e (object bs) rest ≡ rest
-passed done bs (object ms) rest h = passed_members done bs (object ms) ms rest h (λ n x. x)
-passed done bs _ rest h = refl
-
-none_shared : (e : Data) → ((n : List ℕ) → get n e ≡ None) → (bs : Members) → shares bs e ≡ false
-none_shared e none no_members = refl
-none_shared e none (member n d bs) = let f : is_some (get n e) ≡ false = ap is_some (none n) in rw f (none_shared e none bs)
-
-shared_later : (n : List ℕ) (d : Data) (ms bs : Members) → get_member n bs ≡ None → shares bs (object (member n d ms)) ≡ shares bs (object ms)
-shared_later n d ms no_members h = refl
-shared_later n d ms (member l x bs) h = elim (meets n l) [
-  | same e ↦ absurd (some_is_none x (sym (get_same n l x bs e) ∙ h))
-  | other apart ↦ ap (λ o. is_some o || shares bs (object (member n d ms))) (get_other l n d ms (λ e. apart (sym e)))
-      ∙ ap (λ t. is_some (get_member l ms) || t) (shared_later n d ms bs (sym (get_other n l x bs apart) ∙ h))
-]
+passed done bs e rest h = over_entry done e (object bs) rest ∙ passed_members done (properties_of e) (object bs) rest (shares_entry e bs ∙ h)
 
 -- where a name is shared, it does not matter what comes later
-decided_members : (done bs ms : Members) (rest last : Data) → shares bs (object ms) ≡ true → lay_over_member done ms (object bs) rest ≡ lay_over_member done ms (object bs) last
-decided_members done bs no_members rest last h = absurd (true≢false (sym h ∙ none_shared (object no_members) (λ n. refl) bs))
-decided_members done bs (member n d ms) rest last h = elim (cases_Option (get_member n bs)) [
-  | inl is ↦ rw is (decided_members done bs ms rest last (sym (shared_later n d ms bs is) ∙ h))
-  | inr (x, is) ↦ rw is refl
-]
+decided_members : (done ms : Members) (b rest last : Data) → shares ms b ≡ true → lay_over_member done ms b rest ≡ lay_over_member done ms b last
+decided_members done no_members b rest last h = absurd (true≢false (sym h))
+decided_members done (member n d ms) b rest last h = elim (cases_Bool (is_some (get n b))) [ inl is ↦ rw is refl | inr is ↦ rw is (decided_members done ms b rest last (rw is at h)) ]
 
 decided : (done bs : Members) (e rest last : Data) → shares bs e ≡ true → lay_over_entry done e (object bs) rest ≡ lay_over_entry done e (object bs) last
-decided done bs (object ms) rest last h = decided_members done bs ms rest last h
-decided done bs _ rest last h = absurd (true≢false (sym h ∙ none_shared _ (λ n. refl) bs))
+decided done bs e rest last h =
+    over_entry done e (object bs) rest ∙ decided_members done (properties_of e) (object bs) rest last (shares_entry e bs ∙ h) ∙ sym (over_entry done e (object bs) last)
 
 -- ---- the entry at the lowest place of a value's names is the one that is laid over it
 
@@ -156,13 +154,9 @@ finds_object (item e es) bs = elim (cases_Bool (shares bs e)) [
   | inr is ↦ subst (Finds (item e es) (object bs)) (sym (lowest_later e es bs is)) (finds_later e es bs is _ (finds_object es bs))
 ]
 
-plain_members : (done ms : Members) (b rest : Data) → ((n : List ℕ) → get n b ≡ None) → lay_over_member done ms b rest ≡ rest
-plain_members done no_members b rest none = refl
-plain_members done (member n d ms) b rest none = let f : is_some (get n b) ≡ false = ap is_some (none n) in rw f (plain_members done ms b rest none)
-
 finds : (es : Items) (b : Data) → Finds es b (lowest (λ n. place_from 0 n es) (properties_of b))
 finds es (object bs) = finds_object es bs
-finds es _ = λ done. over_entries done es _ ∙ plain_members done (entries_of es) _ _ (λ n. refl)
+finds es _ = λ done. over_entries done es _ ∙ passed_members done (entries_of es) _ _ (none_shared _ (λ n. refl) (entries_of es))
 
 pub found_by_index : (es : Items) (b : Data) (places : BTreeMap (Bor (List ℕ)) ℕ) (o : Option ℕ) → HasPlaces places es → lowest (λ n. place_at places n) (properties_of b) ≡ o → Finds es b o
 found_by_index es b places o placed is =

@@ -214,7 +214,7 @@ over_join : (done a more : Members) (b rest : Data) → lay_over_member done (jo
 over_join done no_members more b rest = refl
 over_join done (member n d ms) more b rest = rw (over_join done ms more b rest) refl
 
-over_entry : (done : Members) (e b rest : Data) → lay_over_entry done e b rest ≡ lay_over_member done (properties_of e) b rest
+pub over_entry : (done : Members) (e b rest : Data) → lay_over_entry done e b rest ≡ lay_over_member done (properties_of e) b rest
 over_entry done (object ms) b rest = refl
 over_entry done _ b rest = refl
 

@@ -11,7 +11,7 @@ use Rattle.conf_inherit.specs.Looks.{Chain, Looks, looks, Entries, no_entry, an_
 use Rattle.conf_inherit.specs.Names.{NoClash, properties_of, items_in, entries_of, entry_values, join_items, map_items, IsInOrder, names_of, new_names, cons_some, values_in, member_names, joined}
 use Rattle.conf_inherit.specs.{Flaws.{flaws, item_flaws, member_flaws, mark}, Named.{Names, all_named, all_named_in_items, all_named_in_members, has}}
 use Rattle.conf_inherit.proofs.LayingLemmas.{cases_Option, has_found, each_has, Meets, same, other, meets, get_other, get_same, lay_base-own, lay_base-heir, in_order_lay, lay_members-base, lay_members-absent, lay_members-found, AllEntries, all_along, over_entries, over_found, new_entries, entry_found, all_joined, has_entry_names, over_absent, entry_names, entries_joined, found_each, no_values, some_is_none}
-use Rattle.conf_inherit.proofs.SizeLemmas.{NoLarger, NoLargerItems, as_large, as_large_items, items_through, no_larger_list, no_larger_object, next_value, further_value, turned_items, none_more, joined_behind, joined_larger, item_first, covered}
+use Rattle.conf_inherit.proofs.SizeLemmas.{NoLarger, NoLargerItems, unchanged, items_through, one_more, next_value, further_value, turned_items, none_more, joined_behind, joined_larger, item_first, covered}
 use Rattle.conf_inherit.proofs.FieldPlaceLemmas.{base_named, list_place, entry_place, inheriting_place, alias_place, member_value_place, member_type_place, type_is_no_base, alias_field, base_place, SamePlace}
 use Rattle.conf_inherit.proofs.FaultLemmas.{SoundAt, sound_entries, passes_text, some_of, part_empty, joined_empty}
 use Rattle.conf_tree.specs.{Flaw.{key, index, within}, Walk.HasMember}
@@ -270,7 +270,7 @@ abbrev pub laid_entry : Members → List ℕ → Data → Data
 laid_entry done n d = object (member n (lay done places.Member d None) no_members)
 
 one_value : (n : List ℕ) (d e : Data) → NoLarger d e → NoLarger (object (member n d no_members)) (object (member n e no_members))
-one_value n d e h = no_larger_object (member n d no_members) (member n e no_members) (next_value d e h none_more)
+one_value n d e h = one_more (next_value d e h none_more)
 
 module _ (al done : Members) where
   -- laid over nothing, it is no larger than over what stands for other values
@@ -310,13 +310,13 @@ module _ (al done : Members) where
         go false is (Some v) found = laid_larger k v d cs base g is found there
 
     own_larger : (cs : List Data) (base : Members) → Ground al s cs base → NoLarger (object (lay_members done s ms no_members)) (object (lay_members done s ms base))
-    own_larger cs base g = no_larger_object (lay_members done s ms no_members) (lay_members done s ms base)
+    own_larger cs base g = one_more
         (covered (lay_members done s ms base) (lay_members done s ms no_members) (in_order_lay done s ms no_members tt) (in_order_lay done s ms base g.in_order) (λ k d there. property_larger k d cs base g there))
 
     grows_object : Grows s (object ms)
     grows_object vs base stands = elim (cases_Option (base_of s ms)) [
       | inl e ↦ (let (cs, c, g) = ground_below al s vs base stands in rw (lay_base-own done s ms base e, lay_base-own done s ms None e) (own_larger (if_objects cs) (members_below base) g))
-      | inr (b, e) ↦ rw (lay_base-heir done s ms base b e, lay_base-heir done s ms None b e) (as_large (object (lay_members done s ms (properties_of (lay done places.FieldType b None)))))
+      | inr (b, e) ↦ rw (lay_base-heir done s ms base b e, lay_base-heir done s ms None b e) unchanged
     ]
 
   -- an entry of the base that the list has not leaves what is new
@@ -341,16 +341,16 @@ module _ (al done : Members) where
       elim (meets m n) [
         | same e ↦ (let at = get_same m n r no_members e in
             let one = ap (λ x. laid_entry done x d) e ∙ ap (laid_entry done n) (same_Some d v (sym (get_same n m d ms (sym e)) ∙ h)) in
-            let later : NoLargerItems old new = subst (NoLargerItems old) (new_absent n r rs ms (subst (λ x. get_member x ms ≡ None) e clear.0)) (as_large_items old) in
+            let later : NoLargerItems old new = subst (NoLargerItems old) (new_absent n r rs ms (subst (λ x. get_member x ms ≡ None) e clear.0)) unchanged in
             elim (cases_Bool (has_entry m rs)) [
               | inl is ↦ rw (at, is) (further_value (laid_entry done n v) later)
-              | inr is ↦ rw (at, is) (next_value (laid_entry done m d) (laid_entry done n v) (subst (NoLarger (laid_entry done m d)) one (as_large (laid_entry done m d))) later)
+              | inr is ↦ rw (at, is) (next_value (laid_entry done m d) (laid_entry done n v) (subst (NoLarger (laid_entry done m d)) one unchanged) later)
             ])
         | other apart ↦ (let at = get_other m n r no_members apart in
             let later = new_found n r v rs ms clear.1 (sym (get_other n m d ms (λ e. apart (sym e))) ∙ h) in
             elim (cases_Bool (has_entry m rs)) [
               | inl is ↦ rw (at, is) later
-              | inr is ↦ rw (at, is) (items_through (next_value (laid_entry done m d) (laid_entry done m d) (as_large (laid_entry done m d)) later) (turned_items (laid_entry done m d) (laid_entry done n v) new))
+              | inr is ↦ rw (at, is) (items_through (next_value (laid_entry done m d) (laid_entry done m d) unchanged later) (turned_items (laid_entry done m d) (laid_entry done n v) new))
             ])
       ]
 
@@ -364,14 +364,14 @@ module _ (al done : Members) where
         let new = lay_new_member done (entries_of es) (item base rs) no_items in
         rw (new_entries done es rs, new_entries done es (item base rs), over_entries done es base)
         (elim (cases_Option (get_member n (entries_of es))) [
-          | inl is ↦ further_value (lay_over_member done (entries_of es) base base) (subst (NoLargerItems old) (new_absent n r rs (entries_of es) is) (as_large_items old))
+          | inl is ↦ further_value (lay_over_member done (entries_of es) base base) (subst (NoLargerItems old) (new_absent n r rs (entries_of es) is) unchanged)
           | inr (v, is) ↦ subst (λ x. NoLargerItems old (item x new)) (sym (over_found done n r (entries_of es) base v is)) (items_through (new_found n r v rs (entries_of es) clear is)
-              (next_value (laid_entry done n v) (object (member n (lay done places.Member v (Some r)) no_members)) (one_value n (lay done places.Member v None) (lay done places.Member v (Some r)) (each n v is vs (Some r) looked)) (as_large_items new)))
+              (next_value (laid_entry done n v) (object (member n (lay done places.Member v (Some r)) no_members)) (one_value n (lay done places.Member v None) (lay done places.Member v (Some r)) (each n v is vs (Some r) looked)) unchanged))
         ])
 
     -- the list laid over nothing, and over the base's entries
     entries_larger : {cs : List Data} {ns : List (List ℕ)} {rs : Items} → Entries al cs ns rs → NoLargerItems (lay_new done es no_items) (join_items (map_items (λ b. lay_over done es b) rs) (lay_new done es rs))
-    entries_larger no_entry = as_large_items (lay_new done es no_items)
+    entries_larger no_entry = unchanged
     entries_larger {cs} (an_entry {n = n} {r = r} {rs = rs} l e) =
         let b = object (member n r no_members) in
         let over = map_items (λ x. lay_over done es x) rs in
@@ -384,16 +384,16 @@ module _ (al done : Members) where
   grows_list s es clear each vs base stands = go (lists_members s) refl base stands
     where
       go : (t : Bool) → lists_members s ≡ t → (base : Option Data) → StandsFor al s vs base → NoLarger (lay done s (array es) None) (lay done s (array es) base)
-      go t is None e = as_large (lay done s (array es) None)
+      go t is None e = unchanged
       go true is (Some b) (looks {cs = cs} c h) = rw is
-          (no_larger_list (lay_new done es no_items) (join_items (map_items (λ b. lay_over done es b) (items_in b)) (lay_new done es (items_in b))) (entries_larger es (clear is) (each is) (base_entries al done is h)))
-      go false is (Some b) l = rw is (no_larger_list es (join_items (items_in b) es) (joined_behind (items_in b) es es (as_large_items es)))
+          (one_more (entries_larger es (clear is) (each is) (base_entries al done is h)))
+      go false is (Some b) l = rw is (one_more (joined_behind (items_in b) es es unchanged))
 
   plain_grows : (s : Place) (v : Data) → IsPlain s v → Grows s v
   plain_grows s (array es) p vs base stands = absurd p
   plain_grows s (object ms) p vs base stands = absurd p
-  plain_grows s (string n) p vs base stands = as_large (lay_text done s n)
-  plain_grows s v p vs base stands = as_large v
+  plain_grows s (string n) p vs base stands = unchanged
+  plain_grows s v p vs base stands = unchanged
 
   pub grows : (v : Data) (s : Place) → SoundAt al s v → all_named (has done) s v ≡ true → Grows s v
-  grows v s sound named = of_sound al done Grows plain_grows (λ s n named vs base stands. as_large (lay_text done s n)) grows_list (λ s ms each. grows_object s ms (λ k d h. each k d (has_found k d ms h))) v s sound named
+  grows v s sound named = of_sound al done Grows plain_grows (λ s n named vs base stands. unchanged) grows_list (λ s ms each. grows_object s ms (λ k d h. each k d (has_found k d ms h))) v s sound named

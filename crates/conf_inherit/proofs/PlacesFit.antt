@@ -11,7 +11,7 @@ use Rattle.conf_inherit.specs.{Laying.{lay, lay_base, lay_members, lay_new, lay_
 use Rattle.conf_inherit.specs.Looks.{AreResolved}
 use Rattle.conf_inherit.proofs.{LaysOver.{laid_entry, property_stands, ground_base, lays, grows}, LayingLemmas.{each_has, has_found, lay_members-found, found_each}}
 use Rattle.conf_inherit.proofs.FaultLemmas.{SoundAt, named, own_sound, single_entry, part_empty, joined_empty}
-use Rattle.conf_inherit.proofs.SizeLemmas.{NoLargerItems, as_large, as_large_items, items_through, next_value, further_value, none_more, fits_below, property_fits, item_fits}
+use Rattle.conf_inherit.proofs.SizeLemmas.{NoLargerItems, unchanged, items_through, next_value, further_value, none_more, fits_below, property_fits, item_fits}
 use Rattle.conf_inherit.proofs.{LookedUp.{apart, member_in_order}, LimitLemmas.{EachFits, sound_type, fits_inside, limit_fits}}
 use Rattle.conf_inherit.proofs.SoundPlaces.{sound_under, sound_item, parts, member_place, object_places, list_places, extras_there, root_place, IsOutside, under_outside, on_or_ignored, extras_or_ignored, LeadsElsewhere, under_elsewhere, items_elsewhere, no_extras, extras_fine}
 use Rattle.conf_inherit.proofs.FieldPlaceLemmas.{list_place, base_place, ignored_under, alias_place, member_value_place, entry_place}
@@ -25,10 +25,10 @@ lists_or_ignored places.Members = inl refl
 lists_or_ignored places.ExtraMembers = inl refl
 lists_or_ignored _ = inr refl
 
-nothing_named : Names places.Ignored → ⊥
-unfolding names_alias names_member_type
-nothing_named (inl h) = true≢false (sym h)
-nothing_named (inr h) = true≢false (sym h)
+-- nothing is named where no alias and no type of a member is
+unnamed : (s : Place) → names_alias s ≡ false → names_member_type s ≡ false → ¬ Names s
+unnamed s a b (inl h) = true≢false (sym h ∙ a)
+unnamed s a b (inr h) = true≢false (sym h ∙ b)
 
 -- a field type fits by itself, and there are not too many extra members
 abbrev pub IsFine : Members → Place → Data → Type 0
@@ -39,15 +39,10 @@ item_in_order no_items i d each there = absurd cc
 item_in_order (item e es) zero d each there = subst Ascends (same_Some e d there) each.0
 item_in_order (item e es) (suc i) d each there = item_in_order es i d each.1 there
 
-pub inherits_under : (x : Data) (s : Place) (ms : Members) (k : List ℕ) (d : Data) → HasMember k d ms → Inherits x (place_under s k) d → InheritsInMembers x s ms
+pub inherits_under : (x : Data) (s : Place) (ms : Members) (k : List ℕ) (d : Data) → HasMember k d ms → ((is_base_name s k ≡ true) × (x ≡ d)) ⊎ Inherits x (place_under s k) d → InheritsInMembers x s ms
 inherits_under x s no_members k d there h = absurd there
-inherits_under x s (member l e ms) k d (inl same) h = inl (inr (subst (λ n. Inherits x (place_under s n) e) same.0 (subst (Inherits x (place_under s k)) same.1 h)))
+inherits_under x s (member l e ms) k d (inl same) h = inl (subst (λ n. ((is_base_name s n ≡ true) × (x ≡ e)) ⊎ Inherits x (place_under s n) e) same.0 (subst (λ c. ((is_base_name s k ≡ true) × (x ≡ c)) ⊎ Inherits x (place_under s k) c) same.1 h))
 inherits_under x s (member l e ms) k d (inr later) h = inr (inherits_under x s ms k d later h)
-
-base_inherits : (s : Place) (ms : Members) (k : List ℕ) (d : Data) → is_base_name s k ≡ true → HasMember k d ms → InheritsInMembers d s ms
-base_inherits s no_members k d is there = absurd there
-base_inherits s (member l e ms) k d is (inl same) = inl (inl (subst (λ n. is_base_name s n ≡ true) same.0 is, same.1))
-base_inherits s (member l e ms) k d is (inr later) = inr (base_inherits s ms k d is later)
 
 pub inherits_in_item : (x : Data) (s : Place) (es : Items) (i : ℕ) (d : Data) → get_item i es ≡ Some d → Inherits x s d → InheritsInItems x s es
 inherits_in_item x s no_items i d there h = absurd cc
@@ -58,7 +53,7 @@ inherits_in_item x s (item e es) (suc i) d there h = inr (inherits_in_item x s e
 
 module _ (done : Members) where
   behind_members : (ms : Members) (seen rest : Items) → NoLargerItems rest (lay_new_member done ms seen rest)
-  behind_members no_members seen rest = as_large_items rest
+  behind_members no_members seen rest = unchanged
   behind_members (member n d ms) seen rest = elim (cases_Bool (has_entry n seen)) [
     | inl is ↦ rw is (behind_members ms seen rest)
     | inr is ↦ rw is (further_value (laid_entry done n d) (behind_members ms seen rest))
@@ -66,14 +61,14 @@ module _ (done : Members) where
 
   behind_entry : (e : Data) (seen rest : Items) → NoLargerItems rest (lay_new_entry done e seen rest)
   behind_entry (object ms) seen rest = behind_members ms seen rest
-  behind_entry _ seen rest = as_large_items rest
+  behind_entry _ seen rest = unchanged
 
   -- an entry of one property stands in the list
   entry_stands : (es : Items) (i : ℕ) (n : List ℕ) (d : Data) → get_item i es ≡ Some (object (member n d no_members)) → NoLargerItems (item (laid_entry done n d) no_items) (lay_new done es no_items)
   entry_stands no_items i n d there = absurd cc
   entry_stands (item e es) zero n d there =
       subst (λ x. NoLargerItems (item (laid_entry done n d) no_items) (lay_new_entry done x no_items (lay_new done es no_items))) (sym (same_Some e (object (member n d no_members)) there))
-      (next_value (laid_entry done n d) (laid_entry done n d) (as_large (laid_entry done n d)) none_more)
+      (next_value (laid_entry done n d) (laid_entry done n d) unchanged none_more)
   entry_stands (item e es) (suc i) n d there =
       items_through (entry_stands es i n d there) (behind_entry e no_items (lay_new done es no_items))
 
@@ -112,7 +107,7 @@ module _ (al done : Members) (known : AreResolved al done) (all : (n : List ℕ)
       let part = sound_under al s ms k d h.sound there in
       elim (cases_Bool (is_base_name s k)) [
         | inl is ↦ (let place = base_place s k is in
-            subst (λ x. Fits (lay done x d None)) (sym place) (h.inherited d (base_inherits s ms k d is there) (subst (λ x. all_named (has done) x d ≡ true) place (sound_named (place_under s k) d part))))
+            subst (λ x. Fits (lay done x d None)) (sym place) (h.inherited d (inherits_under d s ms k d there (inl (is, refl))) (subst (λ x. all_named (has done) x d ≡ true) place (sound_named (place_under s k) d part))))
         | inr is ↦ (let base = members_below (lay_base done s ms None) in
             let found = each_has (λ n e. get_member n ms ≡ Some e) ms k d (found_each ms (apart ms h.in_order.0)) there in
             let (cs, g) = ground_base al done known s ms (λ n e at. let one = sound_under al s ms n e h.sound at in lays al done known e (place_under s n) one (sound_named (place_under s n) e one)) in
@@ -127,7 +122,7 @@ module _ (al done : Members) (known : AreResolved al done) (all : (n : List ℕ)
     elsewhere = under_elsewhere s k h.elsewhere;
     sound = sound_under al s ms k d h.sound there;
     in_order = member_in_order ms k d h.in_order.1 there;
-    inherited = λ x is. h.inherited x (inherits_under x s ms k d there is);
+    inherited = λ x is. h.inherited x (inherits_under x s ms k d there (inr is));
     whole = property_fit s ms k d h there;
   }
 
@@ -153,11 +148,6 @@ unnamed_outside : (s : Place) → IsOutside s → names_alias s ≡ false → ¬
 unfolding leads_on
 unnamed_outside s out no_type (inl h) = true≢false (sym h ∙ no_type)
 unnamed_outside s out no_type (inr h) = true≢false (sym (subst IsOutside (member_value_place s h) out))
-
-entry_unnamed : Names places.Entry → ⊥
-unfolding names_alias names_member_type
-entry_unnamed (inl h) = true≢false (sym h)
-entry_unnamed (inr h) = true≢false (sym h)
 
 module _ (al done : Members) (known : AreResolved al done) (all : (n : List ℕ) → has al n ≡ true → has done n ≡ true) where
   type_fit : (v : Data) → SoundAt al places.FieldType v → Ascends v → type_flaws al done places.FieldType v ≡ [] → IsFit al done known all places.FieldType v
@@ -193,7 +183,7 @@ module _ (al done : Members) (known : AreResolved al done) (all : (n : List ℕ)
         elsewhere = under_elsewhere places.Entry k refl;
         sound = mine;
         in_order = member_in_order ms k d ordered.1 there;
-        inherited = λ x within. h.inherited x (inherits_under x places.Entry ms k d there within);
+        inherited = λ x within. h.inherited x (inherits_under x places.Entry ms k d there (inr within));
         whole = subst (λ t. Fits (lay done t d None)) (sym (entry_place k)) (whole (subst (λ t. all_named (has done) t d ≡ true) (entry_place k) (sound_named al done known all (place_under places.Entry k) d mine)));
       }
 
@@ -245,10 +235,11 @@ module _ (al done : Members) (known : AreResolved al done) (all : (n : List ℕ)
   stands_in s es i d there (ignored place) = ignored (ap place_of_items place)
 
   stands_fine : (s : Place) (v : Data) → Stands s v → IsFine done s v
+  unfolding names_alias names_member_type
   stands_fine s v (outside out no_type h) = ((λ names. absurd (unnamed_outside s out no_type names)), extras_fine al done s v (joined_empty _ _ h.places).0)
-  stands_fine s v (extra place ordered h) = subst (λ t. IsFine done t v) (sym place) ((λ names. absurd (entry_unnamed names)), no_extras places.Entry v refl)
+  stands_fine s v (extra place ordered h) = subst (λ t. IsFine done t v) (sym place) ((λ names. absurd (unnamed places.Entry refl refl names)), no_extras places.Entry v refl)
   stands_fine s v (inside h) = ((λ names. h.whole), no_extras s v h.elsewhere)
-  stands_fine s v (ignored place) = subst (λ t. IsFine done t v) (sym place) ((λ names. absurd (nothing_named names)), no_extras places.Ignored v refl)
+  stands_fine s v (ignored place) = subst (λ t. IsFine done t v) (sym place) ((λ names. absurd (unnamed places.Ignored refl refl names)), no_extras places.Ignored v refl)
 
   -- each field type that a path leads to fits
   fine_along : (path : List Step) (s : Place) (v : Data) (t : Place) (w : Data) → Stands s v → Leads s v path t w → IsFine done t w

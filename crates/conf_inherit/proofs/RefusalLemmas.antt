@@ -1,6 +1,6 @@
 -- The kind of a refusal holds at its path.
 use Rattle.std.proofs.Common.{◌≡◌, ◌⊎◌, inl, inr, ℕ, suc, List, [], ◌∷◌, Option, Some, None, option_and_then, Result, Ok, Err, is_some, nat_lt, Bool, true, false, refl, sym, ap, ◌∙◌, subst}
-use Rattle.std.proofs.lemmas.Bool.{cases_Bool, true≢false}
+use Rattle.std.proofs.lemmas.Bool.{cases_Bool, or_from, true≢false}
 use Rattle.std.specs.Prelude.{⊤}
 use Rattle.serde_json.specs.{Data.{Data, array, object, Items, no_items, item, Members, no_members, member}, Events.{items_len, members_len}}
 use Rattle.serde_json.specs.Find.{get, get_member}
@@ -9,7 +9,7 @@ use Rattle.conf_tree.specs.{declared.fault_kind.FaultKind.FaultKind, declared.fa
 use Rattle.conf_table.specs.{declared.place.Place.Place, Table.{content_under, entries_of, rows_of, place_in}}
 use Rattle.conf_inherit.specs.FieldPlaces.{field_place, place_under, place_of_items, names_alias, names_member_type, lists_extra_members, leads_on}
 use Rattle.conf_inherit.specs.{AliasFlaws.{first_or_circle, alias_flaws, all_alias_flaws}, Flaws.{type_flaws, mark}, Looks.{AreResolved, Looks}, Names.NoClash}
-use Rattle.conf_inherit.specs.{Circle.Walks, SameFlaw.is_same_flaw, Named.{Names, all_named, has}, Rounds.Outcomes, Laying.lay}
+use Rattle.conf_inherit.specs.{Circle.Walks, SameFlaw.is_same_flaw, Named.{Names, all_named, has}, Rounds.{Outcomes, has_outcome}, Laying.lay}
 use Rattle.conf_inherit.specs.{Faults.{Passes, FlawHolds, RefusalHolds, Leads, ListsTooMany, Tells}, Limits.{Exceeds, limit_flaws}}
 use Rattle.conf_inherit.specs.{Places.{too_many, place_flaws, inner_places, item_places, member_places, max_extra_members}, Nesting.{deep_flaws, PassesDepth}}
 use Rattle.conf_inherit.specs.Resolution.{members_or_none, trace_name, type_name, aliases_name, aliases_of, in_aliases, from_aliases, if_shallow, resolution, Resolves}
@@ -17,7 +17,7 @@ use Rattle.conf_inherit.proofs.SizeLemmas.{deep_told, depth_excluded}
 use Rattle.conf_inherit.proofs.SoundPlaces.{flawless, sound_along}
 use Rattle.conf_inherit.proofs.RoundLemmas.{rounds_of, TreeSound, tree_sound, laid_resolves, resolution_sound, no_flaws, circle_refused, rounds_resolved, rounds_reached, all_done}
 use Rattle.conf_inherit.proofs.{LimitLemmas.{limits_told, bases_told, apart_fits}, LookedUp.{no_twice, one_look, both_there, read_in_order, aliases_apart}, LaysOver.lays}
-use Rattle.conf_inherit.proofs.{FieldPlaceLemmas.{trace_place, trace_type_place, aliases_place, alias_field}, TurnLemmas.{IsOpen, rounds_open}}
+use Rattle.conf_inherit.proofs.{FieldPlaceLemmas.{trace_place, trace_type_place, aliases_place, alias_field}, TurnLemmas.rounds_open}
 use Rattle.conf_inherit.proofs.FaultLemmas.{joined_empty, own_sound, Each, no_flaw, a_flaw, joined, each_along, part, first_told, IsTold, holds_told, holds_in_object, holds_in_list, entry_told, inner_told, of_itself, flaws_told, Aligned, aligned_all, aligned_here, aligned_next, Seen, seen_next_at, none_seen, SoundAt, sound_entries}
 use Rattle.conf_inherit.proofs.{LayingLemmas.{has_found, AllEntries, found_each}, PlacesFit.{IsFine, sound_named, all_fine}}
 use borrow.Author.Tests.{ltb-true}
@@ -47,7 +47,7 @@ module _ (al : Members) where
 
   -- ---- the aliases
 
-  module _ (st : Outcomes) (known : AreResolved al st.done) (walks : (k : List ℕ) → has al k ≡ true → IsOpen st k → Walks al (members_len al) k) where
+  module _ (st : Outcomes) (known : AreResolved al st.done) (walks : (k : List ℕ) → has al k ≡ true → has_outcome st k ≡ false → Walks al (members_len al) k) where
     -- a flaw of an alias holds of its value, or is the circle
     alias_told : (k : List ℕ) (w : Data) → get_member k al ≡ Some w → Each (λ f. FlawHolds al places.FieldType w f ⊎ ((f ≡ here InheritCycle) × Walks al (members_len al) k)) (alias_flaws al st k w)
     unfolding alias_flaws
@@ -56,7 +56,7 @@ module _ (al : Members) where
         go : (t : Bool) → has st.done k ≡ t → (u : Bool) → has st.refused k ≡ u → Each (λ f. FlawHolds al places.FieldType w f ⊎ ((f ≡ here InheritCycle) × Walks al (members_len al) k)) (alias_flaws al st k w)
         go true a u b = rw a no_flaw
         go false a true b = rw (a, b) (each_along (λ f h. inl h) (type_holds st.done known places.FieldType w (inl alias_field)))
-        go false a false b = rw (a, b) (each_along (λ f h. elim h [ inl x ↦ inl x | inr e ↦ inr (e, walks k (ap is_some is) (a, b)) ]) (own_or_circle st.done known w _ _ refl))
+        go false a false b = rw (a, b) (each_along (λ f h. elim h [ inl x ↦ inl x | inr e ↦ inr (e, walks k (ap is_some is) (or_from (has st.done k) (has st.refused k) a b)) ]) (own_or_circle st.done known w _ _ refl))
 
     aliases_told : (ms : Members) → AllEntries (λ k w. get_member k al ≡ Some w) ms → ((k : List ℕ) (d : Data) → HasMember k d ms → HasMember k d al) → Each (FlawHolds al places.FieldTypeAliases (object al)) (all_alias_flaws al st ms)
     unfolding place_under content_under entries_of rows_of place_in field_place

@@ -120,20 +120,15 @@ NoLargerItems ds es = NoMore (items_size ds) (items_size es) (items_depth ds) (i
 abbrev pub NoLargerMembers : Members → Members → Type 0
 NoLargerMembers ms ns = NoMore (members_size ms) (members_size ns) (members_depth ms) (members_depth ns)
 
-pub as_large : (d : Data) → NoLarger d d
-as_large d = record { few = omega arith; flat = omega arith }
-
-pub as_large_items : (ds : Items) → NoLargerItems ds ds
-as_large_items ds = record { few = omega arith; flat = omega arith }
+pub unchanged : {m a : ℕ} → NoMore m m a a
+unchanged = record { few = omega arith; flat = omega arith }
 
 pub items_through : {m n o a b c : ℕ} → NoMore m n a b → NoMore n o b c → NoMore m o a c
 items_through i j = record { few = omega (arith, i.few, j.few); flat = omega (arith, i.flat, j.flat) }
 
-pub no_larger_list : (ds es : Items) → NoLargerItems ds es → NoLarger (array ds) (array es)
-no_larger_list ds es h = record { few = omega (arith, h.few); flat = omega (arith, h.flat) }
-
-pub no_larger_object : (ms ns : Members) → NoLargerMembers ms ns → NoLarger (object ms) (object ns)
-no_larger_object ms ns h = record { few = omega (arith, h.few); flat = omega (arith, h.flat) }
+-- a list or an object of no more
+pub one_more : {m n a b : ℕ} → NoMore m n a b → NoMore (suc m) (suc n) (suc a) (suc b)
+one_more h = record { few = omega (arith, h.few); flat = omega (arith, h.flat) }
 
 -- one value more on both sides
 pub next_value : {m n a b : ℕ} (d e : Data) → NoLarger d e → NoMore m n a b → NoMore (size d + m) (size e + n) (max (depth d) a) (max (depth e) b)
@@ -153,13 +148,13 @@ joined_behind (item d a) ds es h = further_value d (joined_behind a ds es h)
 -- what is joined behind may be larger
 pub joined_larger : (a ds es : Items) → NoLargerItems ds es → NoLargerItems (join_items a ds) (join_items a es)
 joined_larger no_items ds es h = h
-joined_larger (item d a) ds es h = next_value d d (as_large d) (joined_larger a ds es h)
+joined_larger (item d a) ds es h = next_value d d unchanged (joined_larger a ds es h)
 
 -- an item behind others may stand before them
 pub item_first : (a : Items) (d : Data) (ds : Items) → NoLargerItems (join_items a (item d ds)) (item d (join_items a ds))
-item_first no_items d ds = as_large_items (item d ds)
+item_first no_items d ds = unchanged
 item_first (item e a) d ds =
-    items_through (next_value e e (as_large e) (item_first a d ds)) (turned_items e d (join_items a ds))
+    items_through (next_value e e unchanged (item_first a d ds)) (turned_items e d (join_items a ds))
 
 -- what each name finds in the one object, it finds in the other, and there it is no smaller
 abbrev pub Covers : Members → Members → Type 0

@@ -95,7 +95,7 @@ same_body done (member k w ms) (member j v vs) h n free = ap (λ l. get_member n
 same_body done _ _ h n free = absurd h
 
 -- as many are left, and no name twice
-spends_count : (done al now : Members) → Spends done al now → members_len now ≡ members_len al
+pub spends_count : (done al now : Members) → Spends done al now → members_len now ≡ members_len al
 spends_count done no_members no_members h = refl
 spends_count done (member k w ms) (member j v vs) h = ap suc (spends_count done ms vs h.1.1)
 spends_count done _ _ h = absurd h
@@ -219,7 +219,7 @@ rounds_more al left st after n apart before waits went =
     subst (λ x. RoundsLeave al left x (n + 1)) (sym went) record { turns = round_leaves al left left st (found_each left clear) before.turns; few = omega (arith, before.few, more) }
 
 -- where none that is left is due, the outcomes are those of the rounds
-settled_rounds : (al left : Members) (st : Outcomes) → NoClash al → TurnsLeave al st left → IsSettled left st → st ≡ rounds al (members_len al) no_outcomes
+pub settled_rounds : (al left : Members) (st : Outcomes) → NoClash al → TurnsLeave al st left → IsSettled left st → st ≡ rounds al (members_len al) no_outcomes
 settled_rounds al left st apart turns settled = turns_are_rounds al apart turns.reached all
   where
     all : IsSettled al st
@@ -227,12 +227,3 @@ settled_rounds al left st apart turns settled = turns_are_rounds al apart turns.
       | inl done ↦ or_left (has st.done k) (has st.refused k) done
       | inr free ↦ settled k w (same_body st.done al left turns.spends k free ∙ is) (same_due al left (same_names st.done al left turns.spends) st w ∙ due)
     ]
-
--- as many rounds as there are aliases leave none due
-pub rounds_all : (al left : Members) (st : Outcomes) (n : ℕ) → NoClash al → RoundsLeave al left st n → members_len al ≡ n → st ≡ rounds al n no_outcomes
-rounds_all al left st n apart last len =
-    settled_rounds al left st apart last.turns (full_settled left st (omega (arith, spends_count st.done al left last.turns.spends, len, last.few))) ∙ ap (λ m. rounds al m no_outcomes) len
-
--- so it is where all is settled
-pub rounds_done : (al left : Members) (st : Outcomes) (n : ℕ) → NoClash al → RoundsLeave al left st n → all_settled left left st ≡ true → st ≡ rounds al (members_len al) no_outcomes
-rounds_done al left st n apart before settled = settled_rounds al left st apart before.turns (is_settled_state left st settled)

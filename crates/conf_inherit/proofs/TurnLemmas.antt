@@ -11,10 +11,6 @@ use Rattle.conf_inherit.proofs.LayingLemmas.{same_members, Meets, same, other, m
 use Rattle.conf_inherit.proofs.{LimitLemmas.{more_named, kept_lay, kept_inner}, FaultLemmas.{named_along, blocked, mentioned, is_put, some_of}}
 use Rattle.conf_inherit.proofs.RoundLemmas.{by_turn, reached_keeps, rounds_reached, count, count_all, count_new, SameAt, same_outcome, concluded_other, Agrees, agrees_through, concluded_agrees}
 
--- the alias has no outcome yet
-abbrev pub IsOpen : Outcomes → List ℕ → Type 0
-IsOpen st k = (has st.done k ≡ false) × (has st.refused k ≡ false)
-
 -- ---- what a conclusion changes
 
 -- what the refused aliases have at a name, by its outcome
@@ -281,19 +277,19 @@ module _ (al : Members) where
   rounds_settled apart = elim (rounds_full (members_len al) apart) [ inl e ↦ is_settled_state (rounds al (members_len al) no_outcomes) e | inr e ↦ full_settled (rounds al (members_len al) no_outcomes) e ]
 
   -- an alias without an outcome, where all is settled, starts a walk of any length
-  open_walks : (st : Outcomes) → IsSettled st → (n : ℕ) (k : List ℕ) → has al k ≡ true → IsOpen st k → Walks al n k
+  open_walks : (st : Outcomes) → IsSettled st → (n : ℕ) (k : List ℕ) → has al k ≡ true → has_outcome st k ≡ false → Walks al n k
   open_walks st settled zero k known h = some_of (get_member k al) known
   open_walks st settled (suc n) k known h =
       let (w, is) = some_of (get_member k al) known in
       elim (cases_Bool (all_named (is_over al st) places.FieldType w)) [
-        | inl due ↦ absurd (true≢false (sym (settled k w is due) ∙ or_from (has st.done k) (has st.refused k) h.0 h.1))
+        | inl due ↦ absurd (true≢false (sym (settled k w is due) ∙ h))
         | inr waits ↦ (let (m, x, f) = blocked (is_over al st) w places.FieldType waits in
             let parts = or_parts (has_outcome st m) (not (has al m)) f in
-            (w, m, is, x, open_walks st settled n m (not-false (has al m) parts.1) (or_parts (has st.done m) (has st.refused m) parts.0)))
+            (w, m, is, x, open_walks st settled n m (not-false (has al m) parts.1) parts.0))
       ]
 
   -- so does one that the rounds leave without an outcome
-  pub rounds_open : NoClash al → (n : ℕ) (k : List ℕ) → has al k ≡ true → IsOpen (rounds al (members_len al) no_outcomes) k → Walks al n k
+  pub rounds_open : NoClash al → (n : ℕ) (k : List ℕ) → has al k ≡ true → has_outcome (rounds al (members_len al) no_outcomes) k ≡ false → Walks al n k
   rounds_open apart n k known h = open_walks (rounds al (members_len al) no_outcomes) (rounds_settled apart) n k known h
 
   -- what any turns lead to that leave none due is what the rounds leave
