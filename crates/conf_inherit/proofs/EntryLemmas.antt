@@ -18,12 +18,7 @@ has_place i n (item e es) = elim (cases_Bool (is_some (get n e))) [ inl is ↦ r
 -- one entry more at the end of a list
 pub place_pushed : (i : ℕ) (n : List ℕ) (vs : List Value) (v : Value) → place_from i n (items_view (push vs v)) ≡ option_or (place_from i n (items_view vs)) (place_if n (view v) (i + length vs))
 place_pushed i n [] v = let e : i ≡ i + 0 = omega arith in ap (place_if n (view v)) e
-place_pushed i n (w ∷ vs) v =
-    let shifted : suc i + length vs ≡ i + suc (length vs) = omega arith in
-    elim (cases_Bool (is_some (get n (view w)))) [
-      | inl is ↦ rw is refl
-      | inr is ↦ rw is (place_pushed (suc i) n vs v ∙ ap (λ x. option_or (place_from (suc i) n (items_view vs)) (place_if n (view v) x)) shifted)
-    ]
+place_pushed i n (w ∷ vs) v = grind (arith, place_pushed (suc i) n vs v)
 
 pub length_pushed : (vs : List Value) (v : Value) → length (push vs v) ≡ length vs + 1
 length_pushed [] v = refl
@@ -37,18 +32,9 @@ or_assoc (Some i) b c = refl
 pub noted : (old new : List ℕ → Option ℕ) (k : List ℕ) (place : ℕ) (d : Data) (ms : Members) → ((n : List ℕ) → new n ≡ update bytes_eq old k (Some place) n)
     → (n : List ℕ) → option_or (place_if n (object ms) place) (new n) ≡ option_or (place_if n (object (member k d ms)) place) (old n)
 noted old new k place d ms put n = elim (meets n k) [
-  | same e ↦ (let eq : bytes_eq k n ≡ true = (bytes_eq-Decides k n).1 (sym e) in
-      let made : new n ≡ Some place = put n ∙ rw eq refl in
-      let found : place_if n (object (member k d ms)) place ≡ Some place = let f = get_same n k d ms e in rw f refl in
-      ap (option_or (place_if n (object ms) place)) made ∙ again (is_some (get n (object ms))) ∙ sym (ap (λ o. option_or o (old n)) found))
-  | other apart ↦ (let eq : bytes_eq k n ≡ false = differs k n (λ e. apart (sym e)) in
-      let kept : new n ≡ old n = put n ∙ rw eq refl in
-      ap (option_or (place_if n (object ms) place)) kept ∙ ap (λ o. option_or (if is_some o then Some place else None) (old n)) (sym (get_other n k d ms apart)))
+  | same e ↦ grind (arith, put n, (bytes_eq-Decides k n).1 (sym e), get_same n k d ms e)
+  | other apart ↦ grind (arith, put n, differs k n (λ e. apart (sym e)), get_other n k d ms apart)
 ]
-  where
-    again : (b : Bool) → option_or (if b then Some place else None) (Some place) ≡ Some place
-    again true = refl
-    again false = refl
 
 -- a list's places are one further on behind one more entry
 place_later : (i : ℕ) (n : List ℕ) (es : Items) → place_from (suc i) n es ≡ option_map suc (place_from i n es)
@@ -77,17 +63,11 @@ shares (member n d ms) e = is_some (get n e) || shares ms e
 
 lowest_later : (e : Data) (es : Items) (ms : Members) → shares ms e ≡ false → lowest (λ n. place_from 0 n (item e es)) ms ≡ option_map suc (lowest (λ n. place_from 0 n es) ms)
 lowest_later e es no_members h = refl
-lowest_later e es (member n d ms) h = elim (cases_Bool (is_some (get n e))) [
-  | inl is ↦ absurd (true≢false (rw is at h))
-  | inr is ↦ rw is (ap (λ o. lower o (lowest (λ n. place_from 0 n (item e es)) ms)) (place_later 0 n es) ∙ ap (lower (option_map suc (place_from 0 n es))) (lowest_later e es ms (rw is at h)) ∙ lower_later (place_from 0 n es) (lowest (λ n. place_from 0 n es) ms))
-]
+lowest_later e es (member n d ms) h = grind (arith, place_later 0 n es, lowest_later e es ms, lower_later (place_from 0 n es) (lowest (λ n. place_from 0 n es) ms))
 
 lowest_here : (e : Data) (es : Items) (ms : Members) → shares ms e ≡ true → lowest (λ n. place_from 0 n (item e es)) ms ≡ Some 0
 lowest_here e es no_members h = absurd (true≢false (sym h))
-lowest_here e es (member n d ms) h = elim (cases_Bool (is_some (get n e))) [
-  | inl is ↦ rw is (lower_first (lowest (λ n. place_from 0 n (item e es)) ms))
-  | inr is ↦ rw is (ap (λ o. lower o (lowest (λ n. place_from 0 n (item e es)) ms)) (place_later 0 n es) ∙ ap (lower (option_map suc (place_from 0 n es))) (lowest_here e es ms (rw is at h)) ∙ lower_second (place_from 0 n es))
-]
+lowest_here e es (member n d ms) h = grind (arith, lower_first, place_later 0 n es, lowest_here e es ms, lower_second)
 
 none_shared : (b : Data) → ((n : List ℕ) → get n b ≡ None) → (ms : Members) → shares ms b ≡ false
 none_shared b none no_members = refl
@@ -95,16 +75,7 @@ none_shared b none (member n d ms) = let f : is_some (get n b) ≡ false = ap is
 
 shares_more : (n : List ℕ) (d : Data) (ms bs : Members) → shares bs (object (member n d ms)) ≡ (is_some (get_member n bs) || shares bs (object ms))
 shares_more n d ms no_members = refl
-shares_more n d ms (member l x bs) = elim (meets n l) [
-  | same e ↦ (let here = get_same l n d ms (sym e) in let there = get_same n l x bs e in rw (here, there) refl)
-  | other apart ↦ (let here = get_other l n d ms (λ e. apart (sym e)) in let there = get_other n l x bs apart in
-      rw (here, there, shares_more n d ms bs) (swapped (is_some (get_member l ms)) (is_some (get_member n bs)) (shares bs (object ms))))
-]
-  where
-    swapped : (a b c : Bool) → (a || (b || c)) ≡ (b || (a || c))
-    swapped true true c = refl
-    swapped true false c = refl
-    swapped false b c = refl
+shares_more n d ms (member l x bs) = elim (meets n l) [ same e ↦ grind (arith, get_same l n d ms (sym e), get_same n l x bs e) | other apart ↦ grind (arith, get_other l n d ms (λ e. apart (sym e)), get_other n l x bs apart, shares_more n d ms bs) ]
 
 -- what an object's names share with an entry, the entry's share with the object
 shares_turned : (ms bs : Members) → shares ms (object bs) ≡ shares bs (object ms)

@@ -30,10 +30,7 @@ some_of None h = absurd (true≢false (sym h))
 some_of (Some x) h = (x, refl)
 
 none_refused : (a b c : Bool) → cond a (here WrongKind ∷ []) (cond b (here NoSuchAlias ∷ []) (cond c (here NameClash ∷ []) [])) ≡ [] → (a ≡ false) × (b ≡ false) × (c ≡ false)
-none_refused false false false e = (refl, refl, refl)
-none_refused true b c e = absurd cc
-none_refused false true c e = absurd cc
-none_refused false false true e = absurd cc
+none_refused a b c e = grind arith
 
 -- a value without a flaw of its own is not of a wrong kind, its name is known, and not taken
 pub record OwnSound (al : Members) (s : Place) (taken : Bool) (v : Data) : Type 0 where

@@ -1,5 +1,5 @@
 -- Objects whose names ascend: what they have at a name, and that their values at all names tell them apart.
-use Rattle.std.proofs.Common.{String, Global, string_cmp, string_bytes, ◌⊎◌, inr, inl, ◌≡◌, ℕ, List, Some, None, Ordering, Less, Equal, Greater, nat_cmp, is_eq, refl, sym, ap, ◌∙◌, subst, Option, Bool, true, false, true≢false, [], ◌∷◌, ◌++◌, ◌||◌, is_some, bytes_eq}
+use Rattle.std.proofs.Common.{arith, String, Global, string_cmp, string_bytes, ◌⊎◌, inr, inl, ◌≡◌, ℕ, List, Some, None, Ordering, Less, Equal, Greater, nat_cmp, is_eq, refl, sym, ap, ◌∙◌, subst, Option, Bool, true, false, true≢false, [], ◌∷◌, ◌++◌, ◌||◌, is_some, bytes_eq}
 use Rattle.std.proofs.{lemmas.{Bool.{cases_Bool, or_parts, false_from_ne_true}, Option.same_Some}, lemmas.List.Folds.list_any-append, lemmas.Cmp.{nat_list_cmp_total, tied_itself}}
 use Rattle.std.proofs.{lemmas.Map.Text.is_eq-slice_cmp, lemmas.Slice.Eq.bytes_eq-Decides}
 use Rattle.std.specs.{Cmp.Lexicographic.slice_cmp, Ordering.ordering_reverse, List.{list_any, AllByRecursion}, List.Sorted.IsStrictlySortedBy, Map.keys_of}
@@ -123,51 +123,33 @@ put_found k l d ms alike = subst (λ x. get_member x (put l d ms) ≡ Some d) (s
 
 pub lay_base-own : (done : Members) (s : Place) (ms : Members) (base : Option Data) → base_of s ms ≡ None → lay_base done s ms base ≡ base
 lay_base-own done s no_members base h = refl
-lay_base-own done s (member k d ms) base h = elim (cases_Bool (is_base_name s k)) [
-  | inl is ↦ absurd (let e : Some d ≡ None = rw is at h in cc)
-  | inr is ↦ rw is (lay_base-own done s ms base (rw is at h))
-]
+lay_base-own done s (member k d ms) base h = grind (arith, lay_base-own done s ms base)
 
 pub lay_base-heir : (done : Members) (s : Place) (ms : Members) (base : Option Data) (b : Data) → base_of s ms ≡ Some b → lay_base done s ms base ≡ Some (lay done places.FieldType b None)
 lay_base-heir done s no_members base b h = cc
-lay_base-heir done s (member k d ms) base b h = elim (cases_Bool (is_base_name s k)) [
-  | inl is ↦ (let e : Some d ≡ Some b = rw is at h in let same : d ≡ b = cc in rw is (ap (λ x. Some (lay done places.FieldType x None)) same))
-  | inr is ↦ rw is (lay_base-heir done s ms base b (rw is at h))
-]
+lay_base-heir done s (member k d ms) base b h = grind (arith, lay_base-heir done s ms base b)
 
 pub in_order_lay : (done : Members) (s : Place) (ms base : Members) → IsInOrder base → IsInOrder (lay_members done s ms base)
 in_order_lay done s no_members base h = h
-in_order_lay done s (member k d ms) base h = elim (cases_Bool (is_base_name s k)) [
-  | inl is ↦ rw is (in_order_lay done s ms base h)
-  | inr is ↦ rw is (in_order_put k _ _ (in_order_lay done s ms base h))
-]
+in_order_lay done s (member k d ms) base h = grind (arith, in_order_put, in_order_lay done s ms base h)
 
 -- a name that inheritance takes keeps what the base has
 pub lay_members-base : (done : Members) (s : Place) (k : List ℕ) (ms base : Members) → is_base_name s k ≡ true → get_member k (lay_members done s ms base) ≡ get_member k base
 lay_members-base done s k no_members base h = refl
-lay_members-base done s k (member l d ms) base h = elim (cases_Bool (is_base_name s l)) [
-  | inl is ↦ rw is (lay_members-base done s k ms base h)
-  | inr is ↦ rw is (get_member-put_other k l _ _ (λ e. true≢false (sym h ∙ ap (is_base_name s) e ∙ is)) ∙ lay_members-base done s k ms base h)
-]
+lay_members-base done s k (member l d ms) base h = grind (arith, get_member-put_other, lay_members-base done s k ms base h)
 
 -- a name that the object has not keeps what the base has
 pub lay_members-absent : (done : Members) (s : Place) (k : List ℕ) (ms base : Members) → get_member k ms ≡ None → get_member k (lay_members done s ms base) ≡ get_member k base
 lay_members-absent done s k no_members base h = refl
-lay_members-absent done s k (member l d ms) base h = elim (meets k l) [
-  | same e ↦ absurd (some_is_none d (sym (get_same k l d ms e) ∙ h))
-  | other apart ↦ (let later = lay_members-absent done s k ms base (sym (get_other k l d ms apart) ∙ h) in
-      elim (cases_Bool (is_base_name s l)) [ inl is ↦ rw is later | inr is ↦ rw is (get_member-put_other k l _ _ apart ∙ later) ])
-]
+lay_members-absent done s k (member l d ms) base h = elim (meets k l) [ same e ↦ absurd (some_is_none d (sym (get_same k l d ms e) ∙ h)) | other apart ↦ grind (arith, get_member-put_other, get_other k l d ms apart, lay_members-absent done s k ms base) ]
 
 -- a name that the object has gets its value, laid over the base's
 pub lay_members-found : (done : Members) (s : Place) (k : List ℕ) (v : Data) (ms base : Members) → is_base_name s k ≡ false → get_member k ms ≡ Some v
     → get_member k (lay_members done s ms base) ≡ Some (lay done (place_under s k) v (get_member k base))
 lay_members-found done s k v no_members base b h = cc
 lay_members-found done s k v (member l d ms) base b h = elim (meets k l) [
-  | same e ↦ (let is : is_base_name s l ≡ false = ap (is_base_name s) (sym e) ∙ b in
-      rw is (put_found k l _ _ e ∙ ap (λ x. Some (lay done (place_under s x) d (get_member x base))) (sym e) ∙ ap (λ x. Some (lay done (place_under s k) x (get_member k base))) (same_Some d v (sym (get_same k l d ms e) ∙ h))))
-  | other apart ↦ (let later = lay_members-found done s k v ms base b (sym (get_other k l d ms apart) ∙ h) in
-      elim (cases_Bool (is_base_name s l)) [ inl is ↦ rw is later | inr is ↦ rw is (get_member-put_other k l _ _ apart ∙ later) ])
+  | same e ↦ grind (arith, get_member-put, get_same k l d ms e, e)
+  | other apart ↦ grind (arith, get_member-put_other, get_other k l d ms apart, lay_members-found done s k v ms base b)
 ]
 
 -- Lists of values item by item, and the entries of members lists.
@@ -192,10 +174,7 @@ differs n l apart = false_from_ne_true (bytes_eq n l) (λ e. apart ((bytes_eq-De
 -- an object has a name where one of its names is that
 pub has_name : (n : List ℕ) (ms : Members) → is_some (get_member n ms) ≡ list_any (bytes_eq n) (names_of ms)
 has_name n no_members = refl
-has_name n (member l d ms) = elim (meets n l) [
-  | same e ↦ (let g : bytes_eq n l ≡ true = (bytes_eq-Decides n l).1 e in rw (get_same n l d ms e, g) refl)
-  | other apart ↦ (let g : bytes_eq n l ≡ false = differs n l apart in rw (get_other n l d ms apart, g) (has_name n ms))
-]
+has_name n (member l d ms) = elim (meets n l) [ same e ↦ grind (arith, get_same n l d ms e, (bytes_eq-Decides n l).1 e) | other apart ↦ grind (arith, get_other n l d ms apart, differs n l apart, has_name n ms) ]
 
 names_joined : (a more : Members) → names_of (join_members a more) ≡ names_of a ++ names_of more
 names_joined no_members more = refl
@@ -253,18 +232,14 @@ module _ (done : Members) (n : List ℕ) (r : Data) where
   over_absent no_members rest h = refl
   over_absent (member m d ms) rest h = elim (meets m n) [
     | same e ↦ absurd (some_is_none d (sym (get_same n m d ms (sym e)) ∙ h))
-    | other apart ↦ (let none : get_member m (member n r no_members) ≡ None = get_other m n r no_members apart in
-        rw none (over_absent ms rest (sym (get_other n m d ms (λ e. apart (sym e))) ∙ h)))
+    | other apart ↦ grind (arith, get_other m n r no_members apart, get_other n m d ms (λ e. apart (sym e)), over_absent ms rest)
   ]
 
   pub over_found : (es : Members) (rest v : Data) → get_member n es ≡ Some v → lay_over_member done es (object (member n r no_members)) rest ≡ object (member n (lay done places.Member v (Some r)) no_members)
   over_found no_members rest v h = cc
   over_found (member m d ms) rest v h = elim (meets m n) [
-    | same e ↦ (let found : get_member m (member n r no_members) ≡ Some r = get_same m n r no_members e in
-        let g : d ≡ v = same_Some d v (sym (get_same n m d ms (sym e)) ∙ h) in
-        rw found (ap (λ x. object (member x (lay done places.Member d (Some r)) no_members)) e ∙ ap (λ x. object (member n (lay done places.Member x (Some r)) no_members)) g))
-    | other apart ↦ (let none : get_member m (member n r no_members) ≡ None = get_other m n r no_members apart in
-        rw none (over_found ms rest v (sym (get_other n m d ms (λ e. apart (sym e))) ∙ h)))
+    | same e ↦ grind (arith, get_same m n r no_members e, get_same n m d ms (sym e), e)
+    | other apart ↦ grind (arith, get_other m n r no_members apart, get_other n m d ms (λ e. apart (sym e)), over_found ms rest v)
   ]
 
 pub entry_names : {al : Members} {cs : List Data} {ns : List (List ℕ)} {rs : Items} → Entries al cs ns rs → names_of (entries_of rs) ≡ ns
@@ -319,13 +294,10 @@ any_append n xs ys h = or_parts (list_any (bytes_eq n) xs) (list_any (bytes_eq n
 -- a name that was not seen, and is not new, is no name of the list
 new_absent : (n : List ℕ) (seen : List (List ℕ)) (ms : Members) → list_any (bytes_eq n) seen ≡ false → list_any (bytes_eq n) (new_names seen (names_of ms)) ≡ false → get_member n ms ≡ None
 new_absent n seen no_members h i = refl
-new_absent n seen (member l d ms) h i = go (meets n l) (list_any (bytes_eq l) seen) refl (new_absent n seen ms h)
-  where
-    go : Meets n l → (t : Bool) → list_any (bytes_eq l) seen ≡ t → (list_any (bytes_eq n) (new_names seen (names_of ms)) ≡ false → get_member n ms ≡ None) → get_member n (member l d ms) ≡ None
-    go (same e) true is rest = absurd (true≢false (sym is ∙ ap (λ x. list_any (bytes_eq x) seen) (sym e) ∙ h))
-    go (same e) false is rest = absurd (true≢false (let f = rw is at i in let g : bytes_eq n l ≡ true = (bytes_eq-Decides n l).1 e in rw g at f))
-    go (other apart) true is rest = get_other n l d ms apart ∙ rest (rw is at i)
-    go (other apart) false is rest = get_other n l d ms apart ∙ rest (let f = rw is at i in (any_append n (l ∷ []) (new_names seen (names_of ms)) f).1)
+new_absent n seen (member l d ms) h i = elim (meets n l) [
+  | same e ↦ grind (arith, (bytes_eq-Decides n l).1 e, e)
+  | other apart ↦ grind (arith, get_other n l d ms apart, differs n l apart, new_absent n seen ms h)
+]
 
 pub no_values : (n : List ℕ) (cs : List Data) → list_any (bytes_eq n) (member_names cs) ≡ false → entry_values n cs ≡ []
 no_values n [] h = refl

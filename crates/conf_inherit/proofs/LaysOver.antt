@@ -1,5 +1,5 @@
 -- A value laid over what stands for other values is looked up among itself and those values.
-use Rattle.std.proofs.Common.{◌≡◌, ℕ, suc, List, [], ◌∷◌, Option, Some, None, Bool, true, false, refl, sym, ap, ◌∙◌, subst, if◌then◌else◌, true≢false, inl, inr, bytes_eq}
+use Rattle.std.proofs.Common.{arith, ◌≡◌, ℕ, suc, List, [], ◌∷◌, Option, Some, None, Bool, true, false, refl, sym, ap, ◌∙◌, subst, if◌then◌else◌, true≢false, inl, inr, bytes_eq}
 use Rattle.std.proofs.lemmas.{Bool.{and_parts, cases_Bool}, Option.same_Some}
 use Rattle.std.specs.List.{list_any}
 use Rattle.serde_json.specs.{Data.{Data, string, array, object, Items, no_items, item, Members, no_members, member}, Find.get_member}
@@ -322,13 +322,10 @@ module _ (al done : Members) where
   -- an entry of the base that the list has not leaves what is new
   new_absent : (n : List ℕ) (r : Data) (rs : Items) (ms : Members) → get_member n ms ≡ None → lay_new_member done ms rs no_items ≡ lay_new_member done ms (item (object (member n r no_members)) rs) no_items
   new_absent n r rs no_members h = refl
-  new_absent n r rs (member m d ms) h = go (meets m n) (has_entry m rs) refl (new_absent n r rs ms)
-    where
-      go : Meets m n → (t : Bool) → has_entry m rs ≡ t → (get_member n ms ≡ None → lay_new_member done ms rs no_items ≡ lay_new_member done ms (item (object (member n r no_members)) rs) no_items)
-          → lay_new_member done (member m d ms) rs no_items ≡ lay_new_member done (member m d ms) (item (object (member n r no_members)) rs) no_items
-      go (same e) t is later = absurd (some_is_none d (sym (get_same n m d ms (sym e)) ∙ h))
-      go (other apart) true is later = rw (get_other m n r no_members apart, is) (later (sym (get_other n m d ms (λ e. apart (sym e))) ∙ h))
-      go (other apart) false is later = rw (get_other m n r no_members apart, is) (ap (item (object (member m (lay done places.Member d None) no_members))) (later (sym (get_other n m d ms (λ e. apart (sym e))) ∙ h)))
+  new_absent n r rs (member m d ms) h = elim (meets m n) [
+    | same e ↦ absurd (some_is_none d (sym (get_same n m d ms (sym e)) ∙ h))
+    | other apart ↦ grind (arith, get_other m n r no_members apart, get_other n m d ms (λ e. apart (sym e)), new_absent n r rs ms)
+  ]
 
   -- one that the list has takes one from what is new
   new_found : (n : List ℕ) (r v : Data) (rs : Items) (ms : Members) → NoClash ms → get_member n ms ≡ Some v

@@ -84,11 +84,7 @@ module _ (done more : Members) (kept : (n : List ℕ) → has done n ≡ true �
   more_named s v h = named_along (has done) (has more) (λ n is. ap is_some (kept n is) ∙ is) s v h
 
   kept_text : (s : Place) (n : List ℕ) → IsNamed s (string n) → lay_text more s n ≡ lay_text done s n
-  kept_text s n h = elim (cases_Bool (names_alias s || names_member_type s)) [
-    | inl e ↦ (let is : has done n ≡ true = rw e at h in
-        ap (λ r. if names_alias s then r else if names_member_type s then object (member field_type_name r no_members) else string n) (ap (λ o. unwrap_or o null) (kept n is)))
-    | inr e ↦ (let none = or_parts (names_alias s) (names_member_type s) e in rw (none.0, none.1) refl)
-  ]
+  kept_text s n h = grind (arith, kept n)
 
   -- a value is laid to the same, over whatever base
   abbrev IsKept : Data → Type 0

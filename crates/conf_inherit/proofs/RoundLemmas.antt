@@ -274,10 +274,7 @@ count_all p (member k d ms) = elim (cases_Bool (p k)) [ inl e ↦ rw e (omega (a
 module _ (p q : List ℕ → Bool) (more : (n : List ℕ) → p n ≡ true → q n ≡ true) where
   -- so many more names pass q where one name more is asked
   count_next : (c : ℕ) (k : List ℕ) (d : Data) (ms : Members) → c + count p ms ≤ count q ms → c + count p (member k d ms) ≤ count q (member k d ms)
-  count_next c k d ms h = elim (cases_Bool (p k)) [
-    | inl a ↦ (let b = more k a in rw (a, b) (omega (arith, h)))
-    | inr a ↦ elim (cases_Bool (q k)) [ inl b ↦ rw (a, b) (omega (arith, h)) | inr b ↦ rw (a, b) h ]
-  ]
+  count_next c k d ms h = grind (arith, more k, h)
 
   pub count_more : (ms : Members) → count p ms ≤ count q ms
   count_more no_members = omega arith

@@ -307,8 +307,4 @@ nests_shallow d levels h = go (deep_flaws d levels) (deep_told d levels)
 -- one more value that nests at most so deep
 pub nest_put : (k : List ℕ) (v : Data) (ms : Members) (levels : ℕ) → nests v levels ≡ true → members_nest ms levels ≡ true → members_nest (put k v ms) levels ≡ true
 nest_put k v no_members levels new h = and_from (nests v levels) true new refl
-nest_put k v (member l d ms) levels new h =
-    let parts = and_parts (nests d levels) (members_nest ms levels) h in
-    put_keeps (λ x. members_nest x levels ≡ true) k l v d ms
-    (λ is. and_from (nests v levels) (nests d levels && members_nest ms levels) new h) (and_from (nests v levels) (members_nest ms levels) new parts.1)
-    (λ is. and_from (nests d levels) (members_nest (put k v ms) levels) parts.0 (nest_put k v ms levels new parts.1))
+nest_put k v (member l d ms) levels new h = grind (arith, nest_put k v ms levels new)

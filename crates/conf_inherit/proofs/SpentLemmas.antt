@@ -76,22 +76,19 @@ spends_spent done n is _ _ h = absurd h
 -- each name is left
 pub same_names : (done al now : Members) → Spends done al now → (n : List ℕ) → is_some (get_member n now) ≡ is_some (get_member n al)
 same_names done no_members no_members h n = refl
-same_names done (member k w ms) (member j v vs) h n = ap (λ l. has (member l v vs) n) (sym h.0) ∙ go (meets n k) (same_names done ms vs h.1.1 n)
-  where
-    go : Meets n k → has vs n ≡ has ms n → has (member k v vs) n ≡ has (member k w ms) n
-    go (same e) later = ap is_some (get_same n k v vs e) ∙ sym (ap is_some (get_same n k w ms e))
-    go (other apart) later = ap is_some (get_other n k v vs apart) ∙ later ∙ sym (ap is_some (get_other n k w ms apart))
+same_names done (member k w ms) (member j v vs) h n = elim (meets n k) [
+  | same e ↦ grind (arith, h.0, get_same n k v vs e, get_same n k w ms e)
+  | other apart ↦ grind (arith, h.0, get_other n k v vs apart, get_other n k w ms apart, same_names done ms vs h.1.1 n)
+]
 same_names done _ _ h n = absurd h
 
 -- the body of an alias that is not resolved is left
 same_body : (done al now : Members) → Spends done al now → (n : List ℕ) → has done n ≡ false → get_member n now ≡ get_member n al
 same_body done no_members no_members h n free = refl
-same_body done (member k w ms) (member j v vs) h n free = ap (λ l. get_member n (member l v vs)) (sym h.0) ∙ go (meets n k) h.1.0 (same_body done ms vs h.1.1 n free)
-  where
-    go : Meets n k → (v ≡ w) ⊎ ((v ≡ null) × (has done k ≡ true)) → get_member n vs ≡ get_member n ms → get_member n (member k v vs) ≡ get_member n (member k w ms)
-    go (same e) (inl is) later = get_same n k v vs e ∙ ap Some is ∙ sym (get_same n k w ms e)
-    go (same e) (inr is) later = absurd (true≢false (sym is.1 ∙ ap (has done) (sym e) ∙ free))
-    go (other apart) at later = get_other n k v vs apart ∙ later ∙ sym (get_other n k w ms apart)
+same_body done (member k w ms) (member j v vs) h n free = elim (meets n k) [
+  | same e ↦ grind (arith, h.0, h.1.0, get_same n k v vs e, get_same n k w ms e, e)
+  | other apart ↦ grind (arith, h.0, get_other n k v vs apart, get_other n k w ms apart, same_body done ms vs h.1.1 n free)
+]
 same_body done _ _ h n free = absurd h
 
 -- as many are left, and no name twice

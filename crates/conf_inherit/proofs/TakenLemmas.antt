@@ -1,5 +1,5 @@
 -- The aliases of a configuration: that each was resolved as it is laid, and is sound.
-use Rattle.std.proofs.Common.{string_bytes, is_eq, ◌≡◌, ◌++◌, ℕ, List, [], map, Option, Some, None, Result, Ok, Err, is_some, true, false, true≢false, refl, sym, ap, ◌∙◌, subst, inl, inr, if◌then◌else◌, ◌∷◌, option_and_then, nat_cmp, ◌⊎◌, suc}
+use Rattle.std.proofs.Common.{arith, string_bytes, is_eq, ◌≡◌, ◌++◌, ℕ, List, [], map, Option, Some, None, Result, Ok, Err, is_some, true, false, true≢false, refl, sym, ap, ◌∙◌, subst, inl, inr, if◌then◌else◌, ◌∷◌, option_and_then, nat_cmp, ◌⊎◌, suc}
 use Rattle.std.proofs.{lemmas.Bool.{cases_Bool, or_left}, lemmas.Slice.Eq.{bytes_eq-Decides}, lemmas.Map.Text.{is_eq-slice_cmp}, lemmas.Option.{same_Some}}
 use Rattle.std.proofs.lemmas.Result.{err_from_is_err_and}
 use Rattle.std.specs.{Prelude.{⊤}, Str.{bytes_eq}, Cmp.Lexicographic.{slice_cmp}, Result.{IsErrAnd}}
@@ -114,10 +114,7 @@ whole_sound al n st apart turned sound =
 
 members_twice : (n : List ℕ) (f g h : Data → Data) → ((d : Data) → f (g d) ≡ h d) → (ms : Members) → with_property n f (with_property n g ms) ≡ with_property n h ms
 members_twice n f g h each no_members = refl
-members_twice n f g h each (member k d ms) = elim (cases_Bool (bytes_eq k n)) [
-  | inl is ↦ rw (is, is) (ap (λ x. member k x ms) (each d))
-  | inr is ↦ rw (is, is) (ap (member k d) (members_twice n f g h each ms))
-]
+members_twice n f g h each (member k d ms) = grind (arith, each d, members_twice n f g h each ms)
 
 value_twice : (n : List ℕ) (f g h : Data → Data) → ((d : Data) → f (g d) ≡ h d) → (v : Data) → in_property n f (in_property n g v) ≡ in_property n h v
 value_twice n f g h each (object ms) = ap object (members_twice n f g h each ms)
@@ -142,15 +139,10 @@ with_none n f ms none = members_same n f ms (λ d is. absurd (let bad : None ≡
 pub written_with : (n : List ℕ) (f : Data → Data) (d : Data) (w : Value) (es : List Entry) → get_member n (members_view es) ≡ Some d → view w ≡ f d → members_view (written n es w) ≡ with_property n f (members_view es)
 written_with n f d w [] there is = cc
 written_with n f d w (e ∷ es) there is =
-    let at = is_eq-slice_cmp n (string_bytes e.0) in
-    elim (meets n (string_bytes e.0)) [
-      | same one ↦ (let here : is_eq (slice_cmp nat_cmp n (string_bytes e.0)) ≡ true = at ∙ (bytes_eq-Decides n (string_bytes e.0)).1 one in
-          let way : bytes_eq (string_bytes e.0) n ≡ true = (bytes_eq-Decides (string_bytes e.0) n).1 (sym one) in
-          let mine : d ≡ view e.1 = same_Some d (view e.1) (sym there ∙ get_same n (string_bytes e.0) (view e.1) (members_view es) one) in
-          rw (here, way) (ap (λ x. member (string_bytes e.0) x (members_view es)) (is ∙ ap f mine)))
-      | other apart ↦ (let here : is_eq (slice_cmp nat_cmp n (string_bytes e.0)) ≡ false = at ∙ differs n (string_bytes e.0) apart in
-          let way : bytes_eq (string_bytes e.0) n ≡ false = differs (string_bytes e.0) n (λ q. apart (sym q)) in
-          rw (here, way) (ap (member (string_bytes e.0) (view e.1)) (written_with n f d w es (sym (get_other n (string_bytes e.0) (view e.1) (members_view es) apart) ∙ there) is)))
+    let k = string_bytes e.0 in
+    elim (meets n k) [
+      | same one ↦ grind (arith, is_eq-slice_cmp n k, (bytes_eq-Decides n k).1 one, (bytes_eq-Decides k n).1 (sym one), get_same n k (view e.1) (members_view es) one)
+      | other apart ↦ grind (arith, is_eq-slice_cmp n k, differs n k apart, differs k n (λ q. apart (sym q)), get_other n k (view e.1) (members_view es) apart, written_with n f d w es)
     ]
 
 -- ---- the aliases of a configuration
@@ -213,11 +205,7 @@ module _ (al done : Members) where
   module _ (s : Place) (n : List ℕ) (f g : Data → Data) (above : leads_on s ≡ true) (alike : (d : Data) → parts al done (place_under s n) (f d) ≡ parts al done (place_under s n) (g d)) where
     members_alike : (ms : Members) → member_places al done s (with_property n f ms) ≡ member_places al done s (with_property n g ms)
     members_alike no_members = refl
-    members_alike (member k d ms) = elim (cases_Bool (bytes_eq k n)) [
-      | inl is ↦ (let here : parts al done (place_under s k) (f d) ≡ parts al done (place_under s k) (g d) = subst (λ x. parts al done (place_under s x) (f d) ≡ parts al done (place_under s x) (g d)) (sym ((bytes_eq-Decides k n).0 is)) (alike d) in
-          rw is (ap (λ fs. map (within (key k)) fs ++ member_places al done s ms) here))
-      | inr is ↦ rw is (ap (λ fs. map (within (key k)) (parts al done (place_under s k) d) ++ fs) (members_alike ms))
-    ]
+    members_alike (member k d ms) = grind (arith, alike d, (bytes_eq-Decides k n).0, members_alike ms)
 
     alike_under : (v : Data) → parts al done s (in_property n f v) ≡ parts al done s (in_property n g v)
     alike_under (object ms) = rw (no_type s (object (with_property n f ms)) above, no_type s (object (with_property n g ms)) above) (ap (λ fs. if leads_on s then fs else []) (members_alike ms))
@@ -288,13 +276,7 @@ module _ (al now : Members) (n : ℕ) (st : Outcomes) (v : Data) (bare : with_al
 
 put_here : (n k : List ℕ) (g : Data → Data) (x : Data) (ms : Members) → bytes_eq k n ≡ true → with_property n g (put k x ms) ≡ put k (g x) ms
 put_here n k g x no_members at = rw at refl
-put_here n k g x (member l e ms) at =
-    let same : k ≡ n = (bytes_eq-Decides k n).0 at in
-    elim (stands k l) [
-      | inl is ↦ rw (is, at) refl
-      | inr (inl is) ↦ (let mine : bytes_eq l n ≡ true = (bytes_eq-Decides l n).1 (sym (equal_names k l is) ∙ same) in rw (is, mine) refl)
-      | inr (inr is) ↦ (let away : bytes_eq l n ≡ false = differs l n (λ e. apart_greater k l is (same ∙ sym e)) in rw (is, away) (ap (member l e) (put_here n k g x ms at)))
-    ]
+put_here n k g x (member l e ms) at = grind (arith, equal_names k l, apart_greater k l, (bytes_eq-Decides k n).0 at, (bytes_eq-Decides l n).1, differs l n, put_here n k g x ms at)
 
 put_beside : (n k : List ℕ) (g : Data → Data) (x : Data) (ms : Members) → bytes_eq k n ≡ false → with_property n g (put k x ms) ≡ put k x (with_property n g ms)
 put_beside n k g x no_members away = rw away refl
@@ -366,10 +348,7 @@ laid_bare done v bare = sym (whole_with done no_members v) ∙ ap (λ d. lay don
 module _ (n : List ℕ) (f g : Data → Data) (levels : ℕ) (each : (d : Data) → deep_flaws (f d) levels ≡ deep_flaws (g d) levels) where
   members_deep : (ms : Members) → deep_member_flaws (with_property n f ms) levels ≡ deep_member_flaws (with_property n g ms) levels
   members_deep no_members = refl
-  members_deep (member k d ms) = elim (cases_Bool (bytes_eq k n)) [
-    | inl is ↦ rw is (ap (λ fs. map (within (key k)) fs ++ deep_member_flaws ms levels) (each d))
-    | inr is ↦ rw is (ap (λ fs. map (within (key k)) (deep_flaws d levels) ++ fs) (members_deep ms))
-  ]
+  members_deep (member k d ms) = grind (arith, each d, members_deep ms)
 
   value_deep : (v : Data) → deep_flaws (in_property n f v) (suc levels) ≡ deep_flaws (in_property n g v) (suc levels)
   value_deep (object ms) = members_deep ms
