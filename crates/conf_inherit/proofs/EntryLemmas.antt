@@ -1,5 +1,5 @@
 -- What an index of entries answers is what a search of the entries answers.
-use Rattle.std.proofs.Common.{inr, inl, Bor, ◌≡◌, ◌+◌, ◌||◌, ℕ, suc, List, [], ◌∷◌, length, Option, Some, None, option_map, unwrap_or, is_some, if◌then◌else◌, Bool, true, false, true≢false, refl, sym, ap, ◌∙◌, subst, arith}
+use Rattle.std.proofs.Common.{inr, inl, Bor, ◌≡◌, ◌+◌, ◌||◌, ℕ, suc, List, [], ◌∷◌, length, Option, Some, None, option_map, unwrap_or, is_some, Bool, true, false, true≢false, refl, sym, ap, ◌∙◌, subst, arith}
 use Rattle.std.proofs.{lemmas.Bool.{or_parts, le-ltb, lt-ltb, cases_Bool, cases_lt}, lemmas.Slice.Eq.bytes_eq-Decides}
 use Rattle.std.specs.{BTreeMap.BTreeMap, List.{IsAmong, push}, Map.update, Option.{option_or, IfSome}, Slice.IsItemAt, Str.bytes_eq}
 use Rattle.serde_json.specs.{Data.{Data, object, Items, no_items, item, Members, no_members, member}, Find.{get, get_member, get_item}, View.{view, items_view}}
@@ -7,7 +7,7 @@ use Rattle.serde_json.specs.declared.value.Value.{Value}
 use Rattle.serde_json.proofs.Views.{get_item_within, get_item_past}
 use Rattle.conf_inherit.specs.EntryIndex.{HasPlaces, place_at, place_if, place_from, lower, lowest}
 use Rattle.conf_inherit.specs.{Laying.{has_entry, lay_over, lay_over_entry, lay_over_member}, Names.{entries_of, properties_of}}
-use Rattle.conf_inherit.proofs.LayingLemmas.{over_entry, over_entries, same_function, some_is_none, cases_Option, get_first, same, other, meets, get_other, get_same, differs}
+use Rattle.conf_inherit.proofs.LayingLemmas.{over_entry, over_entries, same_function, same, other, meets, get_other, get_same, differs}
 
 -- ---- the first place of a name
 
@@ -25,8 +25,7 @@ length_pushed [] v = refl
 length_pushed (w ∷ vs) v = let e : suc (length vs + 1) ≡ suc (length vs) + 1 = omega arith in ap suc (length_pushed vs v) ∙ e
 
 pub or_assoc : (a b c : Option ℕ) → option_or (option_or a b) c ≡ option_or a (option_or b c)
-or_assoc None b c = refl
-or_assoc (Some i) b c = refl
+or_assoc a b c = grind arith
 
 -- once a name is noted, the names that are left are still to be noted
 pub noted : (old new : List ℕ → Option ℕ) (k : List ℕ) (place : ℕ) (d : Data) (ms : Members) → ((n : List ℕ) → new n ≡ update bytes_eq old k (Some place) n)

@@ -1,5 +1,5 @@
 -- Objects whose names ascend: what they have at a name, and that their values at all names tell them apart.
-use Rattle.std.proofs.Common.{arith, String, Global, string_cmp, string_bytes, ◌⊎◌, inr, inl, ◌≡◌, ℕ, List, Some, None, Ordering, Less, Equal, Greater, nat_cmp, is_eq, refl, sym, ap, ◌∙◌, subst, Option, Bool, true, false, true≢false, [], ◌∷◌, ◌++◌, ◌||◌, is_some, bytes_eq}
+use Rattle.std.proofs.Common.{arith, String, Global, string_cmp, string_bytes, ◌⊎◌, inr, inl, ◌≡◌, ℕ, List, Some, None, Ordering, Less, Equal, Greater, nat_cmp, is_eq, refl, sym, ap, ◌∙◌, subst, Option, true, false, true≢false, [], ◌∷◌, ◌++◌, ◌||◌, is_some, bytes_eq}
 use Rattle.std.proofs.{lemmas.{Bool.{cases_Bool, or_parts, false_from_ne_true}, Option.same_Some}, lemmas.List.Folds.list_any-append, lemmas.Cmp.{nat_list_cmp_total, tied_itself}}
 use Rattle.std.proofs.{lemmas.Map.Text.is_eq-slice_cmp, lemmas.Slice.Eq.bytes_eq-Decides}
 use Rattle.std.specs.{Cmp.Lexicographic.slice_cmp, Ordering.ordering_reverse, List.{list_any, AllByRecursion}, List.Sorted.IsStrictlySortedBy, Map.keys_of}
@@ -81,8 +81,8 @@ lower_missing k l d e ms ns below h alike = some_is_none d (sym (get_first k d m
 -- the rest agrees too
 rest_agrees : (k : List ℕ) (d : Data) (ms ns : Members) → AllAbove k ms → AllAbove k ns → ((q : List ℕ) → get_member q (member k d ms) ≡ get_member q (member k d ns)) → (q : List ℕ) → get_member q ms ≡ get_member q ns
 rest_agrees k d ms ns h i alike q = elim (meets q k) [
-  | same e ↦ subst (λ x. get_member x ms ≡ get_member x ns) (sym e) (get_none k ms h ∙ sym (get_none k ns i))
-  | other apart ↦ sym (get_other q k d ms apart) ∙ alike q ∙ get_other q k d ns apart
+  | same e ↦ grind (arith, get_none k ms h, get_none k ns i, e)
+  | other apart ↦ grind (arith, get_other q k d ms apart, get_other q k d ns apart, alike q)
 ]
 
 -- objects in order with the same value at each name are the same
@@ -282,10 +282,7 @@ found_each no_members h = tt
 found_each (member l e ms) h = (get_first l e ms, all_along (λ k d. get_member k ms ≡ Some d) (λ k d. get_member k (member l e ms) ≡ Some d) later ms (found_each ms h.1))
   where
     later : (k : List ℕ) (d : Data) → get_member k ms ≡ Some d → get_member k (member l e ms) ≡ Some d
-    later k d f = elim (meets k l) [
-      | same is ↦ absurd (let g : get_member l ms ≡ Some d = subst (λ x. get_member x ms ≡ Some d) is f in let no : get_member l ms ≡ None = h.0 in let bad : Some d ≡ None = cc in cc)
-      | other apart ↦ get_other k l e ms apart ∙ f
-    ]
+    later k d f = elim (meets k l) [ same is ↦ absurd (some_is_none d (sym f ∙ ap (λ x. get_member x ms) is ∙ h.0)) | other apart ↦ get_other k l e ms apart ∙ f ]
 
 -- a name that is not among those of several lists has no value there
 any_append : (n : List ℕ) (xs ys : List (List ℕ)) → list_any (bytes_eq n) (xs ++ ys) ≡ false → (list_any (bytes_eq n) xs ≡ false) × (list_any (bytes_eq n) ys ≡ false)

@@ -6,11 +6,11 @@ use Rattle.serde_json.specs.{Data.{Data, string, array, object, Items, no_items,
 use Rattle.conf_table.specs.declared.place.Place.{Place}
 use Rattle.conf_table.specs.declared.place.Place.TheVariants as places
 use Rattle.conf_inherit.specs.FieldPlaces.{place_under, place_of_items, is_base_name, lists_members, names_alias, names_member_type, field_type_name}
-use Rattle.conf_inherit.specs.Laying.{lay, has_entry, lay_base, lay_members, lay_over, lay_over_member, lay_new, lay_new_member, members_below, lay_text}
+use Rattle.conf_inherit.specs.Laying.{lay, has_entry, lay_base, lay_members, lay_over, lay_over_member, lay_new, lay_new_member, members_below}
 use Rattle.conf_inherit.specs.Looks.{Chain, Looks, looks, Entries, no_entry, an_entry, base_of, if_objects, values_at, AreResolved, nothing, alias, member_alias, heir, own, a_list, plain, Shows, a_scalar, an_object, the_members, a_join, if_lists, IsPlain}
 use Rattle.conf_inherit.specs.Names.{NoClash, properties_of, items_in, entries_of, entry_values, join_items, map_items, IsInOrder, names_of, new_names, cons_some, values_in, member_names, joined}
 use Rattle.conf_inherit.specs.{Flaws.{flaws, item_flaws, member_flaws, mark}, Named.{Names, all_named, all_named_in_items, all_named_in_members, has}}
-use Rattle.conf_inherit.proofs.LayingLemmas.{cases_Option, has_found, each_has, Meets, same, other, meets, get_other, get_same, lay_base-own, lay_base-heir, in_order_lay, lay_members-base, lay_members-absent, lay_members-found, AllEntries, all_along, over_entries, over_found, new_entries, entry_found, all_joined, has_entry_names, over_absent, entry_names, entries_joined, found_each, no_values, some_is_none}
+use Rattle.conf_inherit.proofs.LayingLemmas.{cases_Option, has_found, each_has, same, other, meets, get_other, get_same, lay_base-own, lay_base-heir, in_order_lay, lay_members-base, lay_members-absent, lay_members-found, AllEntries, all_along, over_entries, over_found, new_entries, entry_found, all_joined, has_entry_names, over_absent, entry_names, entries_joined, found_each, no_values, some_is_none}
 use Rattle.conf_inherit.proofs.SizeLemmas.{NoLarger, NoLargerItems, unchanged, items_through, one_more, next_value, further_value, turned_items, none_more, joined_behind, joined_larger, item_first, covered}
 use Rattle.conf_inherit.proofs.FieldPlaceLemmas.{base_named, list_place, entry_place, inheriting_place, alias_place, member_value_place, member_type_place, type_is_no_base, alias_field, base_place, SamePlace}
 use Rattle.conf_inherit.proofs.FaultLemmas.{SoundAt, sound_entries, passes_text, some_of, part_empty, joined_empty}

@@ -1,11 +1,11 @@
 -- What is said of a value whose names are all resolved is said of it too where more aliases are resolved.
-use Rattle.std.proofs.Common.{cond, if◌then◌else◌, ◌||◌, ◌≡◌, ◌&&◌, ◌++◌, ℕ, suc, List, Option, Some, None, is_some, unwrap_or, Bool, true, false, not, refl, ap, ◌∙◌, subst, ◌⊎◌, inl, inr, ◌↔◌, [], ◌∷◌, Result, Ok, Err, nat_lt, true≢false, sym, arith}
-use Rattle.std.proofs.lemmas.Bool.{or_parts, and_parts, cases_Bool, ltb-false}
-use Rattle.serde_json.specs.{Data.{Data, null, string, array, object, Items, no_items, item, Members, no_members, member}, Find.{get, get_member}}
+use Rattle.std.proofs.Common.{cond, if◌then◌else◌, ◌||◌, ◌≡◌, ◌&&◌, ◌++◌, ℕ, suc, List, Option, Some, None, is_some, Bool, true, false, not, refl, ap, ◌∙◌, subst, ◌⊎◌, inl, inr, ◌↔◌, [], ◌∷◌, Result, Ok, Err, nat_lt, true≢false, sym, arith}
+use Rattle.std.proofs.lemmas.Bool.{and_parts, cases_Bool, ltb-false}
+use Rattle.serde_json.specs.{Data.{Data, string, array, object, Items, no_items, item, Members, no_members, member}, Find.{get, get_member}}
 use Rattle.conf_tree.specs.{Flaw.{key, index, within, Flaw, here}, declared.fault_kind.FaultKind.FaultKind}
 use Rattle.conf_tree.specs.{Walk.refusal, declared.fault_kind.FaultKind.TheVariants.{TooDeep, Limit, WrongKind, NoSuchAlias, NameClash}}
 use Rattle.conf_table.specs.declared.place.Place.{Place}
-use Rattle.conf_inherit.specs.FieldPlaces.{place_under, place_of_items, names_alias, names_member_type, is_base_name, lists_members, is_entry, field_type_name}
+use Rattle.conf_inherit.specs.FieldPlaces.{place_under, place_of_items, names_alias, names_member_type, is_base_name, lists_members, is_entry}
 use Rattle.conf_inherit.specs.{Flaws.{is_wrong, is_unknown, own_flaws, base_flaws, inner_flaws, item_flaws, member_flaws, type_flaws, mark, flaws}, Size.size}
 use Rattle.conf_inherit.specs.Laying.{members_below, items_below, lay_text, lay, lay_base, lay_members, lay_over, lay_over_member, lay_new, lay_new_member}
 use Rattle.conf_inherit.specs.Limits.{fitting, passed, limit_flaws, max_values, max_levels, Fits, Exceeds, Inherits, InheritsInItems, InheritsInMembers}
@@ -116,10 +116,7 @@ module _ (done more : Members) (kept : (n : List ℕ) → has done n ≡ true �
     kept_base no_members s base h = refl
     kept_base (member k d ms) s base h =
         let parts = and_parts (all_named (has done) (place_under s k) d) (all_named_in_members (has done) s ms) h in
-        elim (cases_Bool (is_base_name s k)) [
-          | inl is ↦ rw is (ap Some (kept_lay d places.FieldType None (subst (λ t. all_named (has done) t d ≡ true) (base_place s k is) parts.0)))
-          | inr is ↦ rw is (kept_base ms s base parts.1)
-        ]
+        grind (arith, base_place s k, kept_lay d places.FieldType None, kept_base ms s base parts.1, parts.0)
 
     kept_members : (ms : Members) (s : Place) (base : Members) → all_named_in_members (has done) s ms ≡ true → lay_members more s ms base ≡ lay_members done s ms base
     kept_members no_members s base h = refl
@@ -180,11 +177,7 @@ apart_fits _ r f h = h
 
 -- what fits is the value itself
 pub fitting_value : (r t : Data) → fitting r ≡ Ok t → r ≡ t
-fitting_value r t h = go (fitting r) (judged r) h
-  where
-    go : (o : Result Data FaultKind) → Judged r o → o ≡ Ok t → r ≡ t
-    go o (fits f) e = cc
-    go o (exceeds kind past) e = cc
+fitting_value r t h = grind arith
 
 -- what is told of each limit that a type passes
 passed_told : (P : Flaw → Type 0) (r : Data) (o : Result Data FaultKind) → ((kind : FaultKind) → Exceeds kind r → P (here kind)) → Judged r o → Each P (passed o)

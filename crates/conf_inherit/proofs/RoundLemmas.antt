@@ -97,9 +97,7 @@ module _ (al : Members) where
       reached_keeps al (λ st. AreResolved al st.done) (λ n r h. cc) (λ k w st is free due known. next_resolved k w st is known (outcome al st.done w) refl) (rounds_reached al n each)
 
 or_true : (a b c : Bool) → (a || b || not c) ≡ true → a ≡ false → c ≡ true → b ≡ true
-or_true false true c h e f = refl
-or_true true b c h e f = absurd (true≢false e)
-or_true false false c h e f = absurd (true≢false (sym (rw f at h)))
+or_true a b c h e f = grind arith
 
 -- ---- what a conclusion changes
 

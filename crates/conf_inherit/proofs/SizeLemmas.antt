@@ -9,7 +9,7 @@ use Rattle.conf_inherit.specs.{declared.size.Stop.TheVariants.{Memory, Limit}, N
 use Rattle.conf_inherit.specs.{FieldPlaces.{place_under, is_base_name, lists_members}, Size.{size, items_size, members_size, Within, Leaves, IsDue}}
 use Rattle.conf_inherit.specs.{Laying.{lay, items_below, lay_members, lay_over, lay_new}, Limits.Fits}
 use Rattle.conf_table.specs.declared.place.Place.{Place}
-use Rattle.conf_inherit.proofs.LayingLemmas.{join_appended, same, other, meets, get_other, get_same, lay_members-found, lay_members-absent, lay_members-first, get_first, get_none, has_found, equal_names, above_turned, above_through, some_is_none, stands, put_keeps}
+use Rattle.conf_inherit.proofs.LayingLemmas.{join_appended, same, other, meets, get_other, get_same, lay_members-found, lay_members-absent, lay_members-first, get_first, get_none, has_found, equal_names, above_turned, above_through, some_is_none, stands}
 use Rattle.conf_inherit.proofs.FaultLemmas.{Each, no_flaw, a_flaw, joined, each_along, part, Aligned, aligned_all, aligned_here, aligned_next, part_empty}
 use Rattle.conf_tree.specs.{Flaw.{Flaw, Place as Step, key, index, within}, Walk.{HasMember, LeadsTo, IsNested}}
 

@@ -9,9 +9,9 @@ use Rattle.conf_inherit.specs.{Names.{AllAbove, NoClash}, Limits.{fitting, limit
 use Rattle.conf_inherit.specs.{FieldPlaces.{place_under, place_of_items, lists_extra_members, leads_on}, AliasFlaws.{over_names, alias_flaws, all_alias_flaws}}
 use Rattle.conf_inherit.specs.{Flaws.{flaws, type_flaws, mark}, Laying.lay, Places.{place_flaws, inner_places, item_places, member_places}}
 use Rattle.conf_inherit.specs.Rounds.{Outcomes, has_outcome, is_over, is_empty, if_fitting, outcome, step, round, rounds, no_outcomes, Reached, at_first, turned, all_settled}
-use Rattle.conf_inherit.proofs.LayingLemmas.{above_of, above_through, get_none, Meets, same, other, meets, get_other, get_same, same_function, stands, some_is_none, AllEntries, found_each}
+use Rattle.conf_inherit.proofs.LayingLemmas.{above_of, above_through, get_none, same, other, meets, get_other, get_same, same_function, stands, some_is_none, AllEntries, found_each}
 use Rattle.conf_inherit.proofs.{RoundLemmas.{Agrees, count}, LimitLemmas.{alike_own, alike_flaws, alike_in}}
-use Rattle.conf_inherit.proofs.{TurnLemmas.{none_of, IsSettled, step_agrees, round_grows, full_settled, turns_are_rounds, is_settled_state}, FaultLemmas.{same_part}}
+use Rattle.conf_inherit.proofs.{TurnLemmas.{none_of, IsSettled, step_agrees, round_grows, turns_are_rounds}, FaultLemmas.{same_part}}
 use Rattle.conf_tree.specs.Flaw.{key, index, within}
 use Rattle.conf_table.specs.declared.place.Place.{Place}
 use Rattle.conf_table.specs.declared.place.Place.TheVariants as places

@@ -1,8 +1,8 @@
 -- The aliases of a configuration: that each was resolved as it is laid, and is sound.
-use Rattle.std.proofs.Common.{arith, string_bytes, is_eq, ◌≡◌, ◌++◌, ℕ, List, [], map, Option, Some, None, Result, Ok, Err, is_some, true, false, true≢false, refl, sym, ap, ◌∙◌, subst, inl, inr, if◌then◌else◌, ◌∷◌, option_and_then, nat_cmp, ◌⊎◌, suc}
-use Rattle.std.proofs.{lemmas.Bool.{cases_Bool, or_left}, lemmas.Slice.Eq.{bytes_eq-Decides}, lemmas.Map.Text.{is_eq-slice_cmp}, lemmas.Option.{same_Some}}
+use Rattle.std.proofs.Common.{arith, string_bytes, ◌≡◌, ◌++◌, ℕ, List, [], map, Option, Some, None, Result, Ok, Err, is_some, true, false, true≢false, refl, sym, ap, ◌∙◌, subst, inl, inr, if◌then◌else◌, ◌∷◌, option_and_then, ◌⊎◌, suc}
+use Rattle.std.proofs.{lemmas.Bool.{cases_Bool, or_left}, lemmas.Slice.Eq.{bytes_eq-Decides}, lemmas.Map.Text.{is_eq-slice_cmp}}
 use Rattle.std.proofs.lemmas.Result.{err_from_is_err_and}
-use Rattle.std.specs.{Prelude.{⊤}, Str.{bytes_eq}, Cmp.Lexicographic.{slice_cmp}, Result.{IsErrAnd}}
+use Rattle.std.specs.{Prelude.{⊤}, Str.{bytes_eq}, Result.{IsErrAnd}}
 use Rattle.serde_json.specs.{Data.{Data, null, object, Members, no_members, member, string, array, put}, declared.value.Value.{Value}}
 use Rattle.serde_json.specs.{Find.{get_member, get, as_object}, View.{view, members_view}}
 use Rattle.serde_json.proofs.Views.{Entry}
@@ -17,7 +17,7 @@ use Rattle.conf_inherit.specs.{Places.{place_flaws, inner_places, member_places}
 use Rattle.conf_inherit.specs.Resolution.{trace_name, type_name, aliases_name, from_aliases, aliases_of, members_or_none, if_shallow, resolution_after}
 use Rattle.conf_inherit.specs.Nesting.{members_nest, deep_flaws, deep_member_flaws}
 use Rattle.conf_inherit.proofs.FieldPlaceLemmas.{trace_place, trace_type_place, aliases_place}
-use Rattle.conf_inherit.proofs.LayingLemmas.{differs, cases_Option, same_members, in_order_lay, lay_members-absent, lay_members-found, same, other, meets, get_other, get_same, AllEntries, all_along, found_each, equal_names, lay_members-first, apart_greater, stands}
+use Rattle.conf_inherit.proofs.LayingLemmas.{differs, cases_Option, same_members, in_order_lay, lay_members-absent, lay_members-found, same, other, meets, get_other, get_same, AllEntries, all_along, found_each, equal_names, apart_greater}
 use Rattle.conf_inherit.proofs.{LimitLemmas.{fitting_value}, SoundPlaces.{parts}}
 use Rattle.conf_inherit.proofs.{RoundLemmas.{no_flaws, sound_of, outcome_is, all_done, rounds_reached}, FaultLemmas.{some_of}, TurnLemmas.{reached_sound}}
 use Rattle.conf_inherit.proofs.{SpentLemmas.{written, same_names, same_alias_flaws, same_places}, SizeLemmas.{nests_shallow}}
@@ -42,10 +42,7 @@ laid_outcome : (al done : Members) (w r : Data) → outcome al done w ≡ Some r
 laid_outcome al done w r h = fitting_value (lay done places.FieldType w None) r (outcome_is al done w r h).fits
 
 no_done : (al : Members) (st : Outcomes) (q : List ℕ) → (has_outcome st q ≡ true → has al q ≡ true) → get_member q al ≡ None → get_member q st.done ≡ None
-no_done al st q own none = elim (cases_Option (get_member q st.done)) [
-  | inl e ↦ e
-  | inr (r, e) ↦ absurd (true≢false (sym (own (or_left (has st.done q) (has st.refused q) (ap is_some e))) ∙ ap is_some none))
-]
+no_done al st q own none = grind (arith, own, cases_Option (get_member q st.done))
 
 -- an alias is a field type
 alias_laid : (done : Members) (q : List ℕ) (w : Data) (al : Members) → get_member q al ≡ Some w → get_member q (lay_members done places.FieldTypeAliases al no_members) ≡ Some (lay done places.FieldType w None)
@@ -123,8 +120,8 @@ value_twice n f g h each _ = refl
 members_same : (n : List ℕ) (f : Data → Data) (ms : Members) → ((d : Data) → get_member n ms ≡ Some d → f d ≡ d) → with_property n f ms ≡ ms
 members_same n f no_members each = refl
 members_same n f (member k d ms) each = elim (meets n k) [
-  | same e ↦ (let is : bytes_eq k n ≡ true = (bytes_eq-Decides k n).1 (sym e) in rw is (ap (λ x. member k x ms) (each d (get_same n k d ms e))))
-  | other away ↦ (let is : bytes_eq k n ≡ false = differs k n (λ e. away (sym e)) in rw is (ap (member k d) (members_same n f ms (λ e at. each e (get_other n k d ms away ∙ at)))))
+  | same e ↦ grind (arith, each d (get_same n k d ms e), (bytes_eq-Decides k n).1 (sym e))
+  | other away ↦ grind (arith, differs k n (λ e. away (sym e)), members_same n f ms (λ e at. each e (get_other n k d ms away ∙ at)))
 ]
 
 value_stays : (n : List ℕ) (f : Data → Data) (v : Data) → ((d : Data) → get n v ≡ Some d → f d ≡ d) → in_property n f v ≡ v
@@ -280,14 +277,7 @@ put_here n k g x (member l e ms) at = grind (arith, equal_names k l, apart_great
 
 put_beside : (n k : List ℕ) (g : Data → Data) (x : Data) (ms : Members) → bytes_eq k n ≡ false → with_property n g (put k x ms) ≡ put k x (with_property n g ms)
 put_beside n k g x no_members away = rw away refl
-put_beside n k g x (member l e ms) away = elim (cases_Bool (bytes_eq l n)) [
-  | inl at ↦ elim (stands k l) [
-    | inl is ↦ rw (at, is, away, at) refl
-    | inr (inl is) ↦ absurd (true≢false (sym at ∙ ap (λ m. bytes_eq m n) (sym (equal_names k l is)) ∙ away))
-    | inr (inr is) ↦ rw (at, is, at) refl
-  ]
-  | inr at ↦ elim (stands k l) [ inl is ↦ rw (at, is, away, at) refl | inr (inl is) ↦ rw (at, is, at) refl | inr (inr is) ↦ rw (at, is, at) (ap (member l e) (put_beside n k g x ms away)) ]
-]
+put_beside n k g x (member l e ms) away = grind (arith, equal_names k l, put_beside n k g x ms away)
 
 -- ---- what is laid
 
@@ -307,15 +297,10 @@ module _ (done : Members) (s : Place) (above : leads_on s ≡ true) where
   module _ (n : List ℕ) (f g : Data → Data) (each : (d : Data) → lay done (place_under s n) (f d) None ≡ g (lay done (place_under s n) d None)) where
     members_with : (ms : Members) → lay_members done s (with_property n f ms) no_members ≡ with_property n g (lay_members done s ms no_members)
     members_with no_members = refl
-    members_with (member k d ms) =
-        let laid = lay done (place_under s k) d None in
-        let rest = lay_members done s ms no_members in
-        let first : (e : Data) (xs : Members) → lay_members done s (member k e xs) no_members ≡ put k (lay done (place_under s k) e None) (lay_members done s xs no_members) = λ e xs. lay_members-first done s k e xs no_members (no_base s k above) in
-        elim (cases_Bool (bytes_eq k n)) [
-          | inl is ↦ (let one : lay done (place_under s k) (f d) None ≡ g laid = subst (λ x. lay done (place_under s x) (f d) None ≡ g (lay done (place_under s x) d None)) (sym ((bytes_eq-Decides k n).0 is)) (each d) in
-              rw is (first (f d) ms ∙ ap (λ x. put k x rest) one ∙ sym (put_here n k g laid rest is) ∙ ap (with_property n g) (sym (first d ms))))
-          | inr is ↦ rw is (first d (with_property n f ms) ∙ ap (put k laid) (members_with ms) ∙ sym (put_beside n k g laid rest is) ∙ ap (with_property n g) (sym (first d ms)))
-        ]
+    members_with (member k d ms) = elim (cases_Bool (bytes_eq k n)) [
+      | inl is ↦ grind (arith, no_base s k above, put_here n k g (lay done (place_under s k) d None) (lay_members done s ms no_members) is, each d, (bytes_eq-Decides k n).0 is)
+      | inr is ↦ grind (arith, no_base s k above, put_beside n k g (lay done (place_under s k) d None) (lay_members done s ms no_members) is, members_with ms)
+    ]
 
     value_with : (v : Data) → lay done s (in_property n f v) None ≡ in_property n g (lay done s v None)
     value_with (object ms) = laid_object done s (with_property n f ms) above ∙ ap object (members_with ms) ∙ ap (in_property n g) (sym (laid_object done s ms above))

@@ -1,7 +1,7 @@
 -- What the aliases come to does not depend on the order of their turns: where each that is due had its own, the
 -- outcomes are those that the rounds leave.
 use Rattle.std.proofs.Common.{◌≡◌, ◌<◌, ◌≤◌, ◌⊎◌, inl, inr, ℕ, zero, suc, List, Option, Some, None, is_some, Bool, true, false, not, true≢false, refl, sym, ap, ◌∙◌, subst, arith}
-use Rattle.std.proofs.lemmas.{Bool.{both_ways, not-true, not-false, or_from, or_cases, and_parts, cases_Bool, or_parts, or_left, or_right}, Option.same_Some}
+use Rattle.std.proofs.lemmas.{Bool.{both_ways, not-true, not-false, or_cases, and_parts, cases_Bool, or_parts, or_left, or_right}, Option.same_Some}
 use Rattle.serde_json.specs.{Data.{Data, null, Members, no_members, member, put}, Events.members_len, Find.get_member}
 use Rattle.serde_json.proofs.Views.{get_member-put}
 use Rattle.conf_table.specs.declared.place.Place.TheVariants as places
@@ -214,18 +214,15 @@ module _ (al : Members) where
 
   pub settled_round : (ms : Members) (st : Outcomes) → all_settled al ms st ≡ true → round al ms st ≡ st
   settled_round no_members st h = refl
-  settled_round (member k w ms) st h =
-      ap (round al ms) (settled_step k w st (and_parts (is_settled al st k w) (all_settled al ms st) h).0) ∙ settled_round ms st (and_parts (is_settled al st k w) (all_settled al ms st) h).1
+  settled_round (member k w ms) st h = let (one, rest) = and_parts (is_settled al st k w) (all_settled al ms st) h in ap (round al ms) (settled_step k w st one) ∙ settled_round ms st rest
 
   over_settled : (ms : Members) (st : Outcomes) → all_over ms st ≡ true → all_settled al ms st ≡ true
   over_settled no_members st h = refl
-  over_settled (member k w ms) st h =
-      let one : is_settled al st k w ≡ true = or_left (has_outcome st k) (not (all_named (is_over al st) places.FieldType w)) (and_parts (has_outcome st k) (all_over ms st) h).0 in
-      rw one (over_settled ms st (and_parts (has_outcome st k) (all_over ms st) h).1)
+  over_settled (member k w ms) st h = grind (arith, over_settled ms st)
 
   each_settled : (ms : Members) (st : Outcomes) → all_settled al ms st ≡ true → AllEntries (λ k w. is_settled al st k w ≡ true) ms
   each_settled no_members st h = tt
-  each_settled (member k w ms) st h = ((and_parts (is_settled al st k w) (all_settled al ms st) h).0, each_settled ms st (and_parts (is_settled al st k w) (all_settled al ms st) h).1)
+  each_settled (member k w ms) st h = let (one, rest) = and_parts (is_settled al st k w) (all_settled al ms st) h in (one, each_settled ms st rest)
 
   pub is_settled_state : (st : Outcomes) → all_settled al al st ≡ true → IsSettled st
   is_settled_state st h k w is due =
