@@ -281,10 +281,7 @@ module _ (p q : List ℕ → Bool) (more : (n : List ℕ) → p n ≡ true → q
   -- one that passes now, and did not before, counts
   pub count_new : (k : List ℕ) (w : Data) (ms : Members) → get_member k ms ≡ Some w → p k ≡ false → q k ≡ true → count p ms < count q ms
   count_new k w no_members is before after = cc
-  count_new k w (member l d ms) is before after = elim (meets k l) [
-    | same e ↦ (let a : p l ≡ false = ap p (sym e) ∙ before in let b : q l ≡ true = ap q (sym e) ∙ after in let all = count_more ms in rw (a, b) (omega (arith, all)))
-    | other apart ↦ (let rest = count_new k w ms (sym (get_other k l d ms apart) ∙ is) before after in omega (arith, count_next 1 l d ms (omega (arith, rest))))
-  ]
+  count_new k w (member l d ms) is before after = elim (meets k l) [ same e ↦ grind (arith, count_more ms, e) | other apart ↦ grind (arith, count_next 1 l d ms, count_new k w ms, get_other k l d ms apart) ]
 
 -- ---- the walks of a resolved alias
 

@@ -1,5 +1,5 @@
 -- Where names lead: what is true of each row of an object, and of what no row has, is true of the place that a name leads to.
-use Rattle.std.proofs.Common.{inr, inl, ◌≡◌, ◌&&◌, ℕ, Bool, true, false, cond, List, [], ◌∷◌, Option, Some, None, option_map, refl, subst, bytes_eq, ◌||◌, true≢false, if◌then◌else◌, sym, ap, ◌∙◌}
+use Rattle.std.proofs.Common.{arith, inr, inl, ◌≡◌, ◌&&◌, ℕ, Bool, true, false, cond, List, [], ◌∷◌, Option, Some, None, option_map, refl, bytes_eq, ◌||◌, true≢false, if◌then◌else◌, sym, ap, ◌∙◌}
 use Rattle.std.proofs.{lemmas.Bool.{and_parts, cases_Bool}, lemmas.Slice.Eq.bytes_eq-Decides}
 use Rattle.std.specs.Prelude.{codes}
 use Rattle.conf_table.specs.{declared.place.Place.Place, declared.row.Entries.Entries}
@@ -28,10 +28,7 @@ module _ (f : List ℕ → Place → Bool) (k : List ℕ) where
 
   of_rows : (rs : List Told) → true_along rs ≡ true → f k (field_place_or_none (option_map place_in (option_map (λ r. r.content) (row_in k rs)))) ≡ true
   of_rows [] h = h
-  of_rows (r ∷ rs) h = elim (cases_Bool (bytes_eq r.name k)) [
-    | inl is ↦ rw is (subst (λ n. f n (field_place (place_in r.content)) ≡ true) ((bytes_eq-Decides r.name k).0 is) (and_parts (f r.name (field_place (place_in r.content))) (true_along rs) h).0)
-    | inr is ↦ rw is (of_rows rs (and_parts (f r.name (field_place (place_in r.content))) (true_along rs) h).1)
-  ]
+  of_rows (r ∷ rs) h = let (mine, others) = and_parts (f r.name (field_place (place_in r.content))) (true_along rs) h in grind (arith, (bytes_eq-Decides r.name k).0, of_rows rs others, mine)
 
   of_told : (o : Option Entries) (rs : List Told) → true_told o rs ≡ true → f k (field_place_or_none (option_map place_in (told_under o rs k))) ≡ true
   of_told (Some entries) rs h = h
