@@ -1,8 +1,11 @@
 //! A stream file that is read packet by packet.
 
+ghost use Rattle.std.specs.Prelude.{IfOk};
+ghost use Rattle.ctf_types.specs.Allowed.{IsMetadata};
+
 use crate::fault::BenchFault;
 use crate::record::Record;
-use ctf_types::{ListOf, ReadPacket, Text, Values};
+use ctf_types::{ListOf, Metadata, ReadPacket, Text, Values};
 use packet_reader::{StreamEnding, StreamReader};
 use std::alloc::Global;
 use std::io::Read;
@@ -15,14 +18,24 @@ pub fn decoded<R: Read + Drop>(
     record: Record,
     input: R,
 ) -> Result<String, BenchFault> {
-    let config = record.configured(alloc)?;
-    let text = write_metadata(alloc, &config)?;
-    let Ok(metadata) = read_metadata(alloc, text.as_bytes()) else {
-        return Err(BenchFault::Configuration);
-    };
+    let metadata = metadata_of(alloc, record)?;
     let name = Text::from_str(alloc, "s")?;
     let mut reader = StreamReader::new(alloc, &metadata, name, input);
-    let (packets, records) = counted(alloc, &mut reader)?;
+    told(alloc, &mut reader)
+}
+
+/// The metadata of such records, from its text.
+fn metadata_of(alloc: Global, record: Record) -> Result<Metadata, BenchFault>
+    ensures { IfOk result (λ metadata. IsMetadata metadata) }
+{
+    let config = record.configured(alloc)?;
+    let text = write_metadata(alloc, &config)?;
+    read_metadata(alloc, text.as_bytes()).map_err(|_fault| BenchFault::Configuration)
+}
+
+/// Reads on to the end, and tells how many packets and records there are.
+fn told<R: Read>(alloc: Global, reader: &mut StreamReader<'_, R>) -> Result<String, BenchFault> {
+    let (packets, records) = counted(alloc, reader)?;
     match reader.end() {
         Some(StreamEnding::Whole) => {
             Ok(format!(in alloc; "{packets} packets, {records} records\n")?)

@@ -20,21 +20,40 @@ type Listed = Session<TickSeat, ListBackEnd, MemorySink>;
 pub fn run_session(alloc: Global, record: Record, calls: usize) -> Result<Tally, BenchFault>
     requires { calls ≤ 100000000 }
 {
+    let events = events(alloc, record, calls)?;
+    let mut session = session_of(alloc, record, calls)?;
+    let accepted = accepted_in(&mut session, events.as_slice())?;
+    let bytes = bytes_at_end(session)?;
+    Ok(Tally { accepted, bytes })
+}
+
+/// A session of one stream.
+fn session_of(alloc: Global, record: Record, calls: usize) -> Result<Listed, BenchFault>
+    requires { calls ≤ 100000000 }
+{
     let config = record.configured(alloc)?;
     let mut session = Session::new(alloc, config);
     add_stream(alloc, &mut session, calls)?;
-    let events = events(alloc, record, calls)?;
+    Ok(session)
+}
+
+/// Runs the calls, and tells how many were accepted.
+fn accepted_in(session: &mut Listed, events: &[Event]) -> Result<usize, BenchFault>
+    requires { All (λ e. e.stream ≡ 0) events.now }
+{
     if session.stream_count() == 0 {
         return Err(BenchFault::Workers);
     }
-    let answers = run_events(&mut session, events.as_slice())?;
-    let Ok(finished) = session.finish_all() else {
-        return Err(BenchFault::OutOfMemory);
-    };
-    Ok(Tally {
-        accepted: accepted_of(answers.as_slice()),
-        bytes: bytes_of(finished.sinks.as_slice()),
-    })
+    let answers = run_events(session, events)?;
+    Ok(accepted_of(answers.as_slice()))
+}
+
+/// The bytes of all packets, once the session is finished.
+fn bytes_at_end(session: Listed) -> Result<usize, BenchFault> {
+    match session.finish_all() {
+        Ok(finished) => Ok(bytes_of(finished.sinks.as_slice())),
+        Err(_) => Err(BenchFault::OutOfMemory),
+    }
 }
 
 fn add_stream(alloc: Global, session: &mut Listed, calls: usize) -> Result<(), BenchFault>

@@ -25,17 +25,21 @@ pub fn trace_calls<W: Sink + Drop>(
 ) -> Result<(W, usize), BenchFault>
     requires { calls ≤ 100000000 }
 {
-    let config = record.configured(alloc)?;
     let args = record.args(alloc)?;
-    let stream = stream_of(alloc, &config, calls)?;
+    let stream = stream_of(alloc, record, calls)?;
     traced(stream, &args, calls, sink)
 }
 
-fn stream_of(
-    alloc: Global,
-    config: &Config,
-    calls: usize,
-) -> Result<Stream<TickSeat, ListBackEnd>, BenchFault>
+type Listed = Stream<TickSeat, ListBackEnd>;
+
+fn stream_of(alloc: Global, record: Record, calls: usize) -> Result<Listed, BenchFault>
+    requires { calls ≤ 100000000 }
+{
+    let config = record.configured(alloc)?;
+    stream_by(alloc, &config, calls)
+}
+
+fn stream_by(alloc: Global, config: &Config, calls: usize) -> Result<Listed, BenchFault>
     requires config { IsConfig config.now }
     requires calls { calls ≤ 100000000 }
 {
@@ -50,7 +54,7 @@ fn stream_of(
 }
 
 fn traced<W: Sink + Drop>(
-    stream: Stream<TickSeat, ListBackEnd>,
+    stream: Listed,
     args: &Args,
     calls: usize,
     sink: W,
