@@ -1,33 +1,27 @@
 -- What a text means is metadata that the rules allow: its streams, and all of it.
-use Rattle.std.proofs.Common.{◌≡◌, ℕ, ◌<◌, Bool, true, false, not, ◌||◌, IsTrue, eqb, ltb, List, ◌∷◌, map, All, Option, Some, None, refl, sym, subst, arith, codes, nat_cmp, Less, ◌≤◌, ◌&&◌, length, ap, ◌∙◌, []}
-use Rattle.tsdl_meaning.proofs.TextWords.{AllByRecursion, Block, ByteString, Denotes, Dyn, Enum, EnvironmentEntry, Event, Int, IsByteType, IsDistinct, IsEvent, IsIdentity, IsMagic, IsMetadata, IsMetadataName, IsStream, IsUnsigned, Item, Known, Labelled, Leaf, MemberType, NamedFact, NumbersRise, Plain, Static, Str, Stream, and_true, at_most_one, bind_some, block_and_semicolon, block_toks, by_number, by_number-rises, bytes_eq, clock_names, cond_both, context_names, each, environment_in, environment_meaning, eqb-true, event_context, event_header, event_in, event_meaning, events_of, fact_meaning, fields_scope, flat_map, has_member, have_streams, header_meaning, insert_numbered, is_byte, is_flat, is_unsigned, is_unsigned_of, is_uuid, items_toks, known_of, leb-true, list_any, map_some, mark, named_fact_meaning, named_fact_toks, nat_cmp_is, nat_le, no_two, not-true, only, or_parts, packet_context, packet_header, provided, provided_some, some_same, specific_context, stream_in, stream_meaning, streams_meaning, suits, suits_header, text_meta, text_toks, trace_in, with_events, ◌>>=◌}
+use Rattle.std.proofs.Common.{◌≡◌, ℕ, ◌<◌, true, false, IsTrue, List, ◌∷◌, map, All, Some, refl, sym, subst, arith, codes, nat_cmp, Less, ◌≤◌, ◌&&◌, length, []}
+use Rattle.tsdl_meaning.proofs.TextWords.{AllByRecursion, Block, Denotes, EnvironmentEntry, Event, IsDistinct, IsEvent, IsIdentity, IsMagic, IsMetadata, IsMetadataName, IsStream, IsUnsigned, Item, Known, MemberType, NamedFact, NumbersRise, Stream, and_true, at_most_one, bind_some, braced, block_and_semicolon, block_toks, by_number, by_number-rises, bytes_eq, clock_names, context_names, each, environment_in, environment_meaning, event_context, event_header, event_in, event_meaning, events_of, fields_scope, flat_map, has_member, have_streams, header_meaning, insert_numbered, is_unsigned_of, is_uuid, items_toks, known_of, leb-true, list_any, mark, named_fact_meaning, named_fact_toks, nat_cmp_is, nat_le, no_two, only, or_parts, packet_context, packet_header, provided, provided_some, some_same, specific_context, stream_in, stream_meaning, streams_meaning, suits, suits_header, text_meta, text_toks, trace_in, with_events, ◌>>=◌}
 use Rattle.std.specs.List.Sorted.{IsStrictlySortedBy}
+use Rattle.std.proofs.lemmas.Bool.Decides.{nat_tests}
 use Rattle.std.proofs.lemmas.List.Elements.{All-from_recursion}
 use Rattle.ctf_types.specs.Packets.{own_names}
 use Rattle.tsdl_grammar.proofs.BlockParts.{says_stream, says_event}
 use Rattle.tsdl_meaning.proofs.GoodAtoms.{AreGood, IsGood, all_front, good_atoms}
 use Rattle.tsdl_meaning.proofs.AllowedTypes.{each_keeps, all_spelled, inside, scope_allowed, unsigned, each_has, at_name}
 use Rattle.tsdl_meaning.proofs.MemberNames.{member_says}
-use Rattle.ctf_types.specs.declared.EnvironmentValue.{EnvironmentValue}
 use Rattle.ctf_types.specs.declared.Metadata.{Metadata}
-use Rattle.ctf_types.specs.Chain.{Number}
 use Rattle.tsdl_grammar.specs.declared.token.Mark.TheVariants as marks
-use Rattle.tsdl_grammar.specs.declared.tree.Block.TheVariants as blocks
 use Rattle.tsdl_grammar.proofs.MeaningParts.{says_metadata}
 use Rattle.tsdl_grammar.proofs.StreamParts.{streams_stand_by_number}
 
 -- ---- in the order of numbers
 
 insert_all : {A : Type 0} (P : A → Type 0) (number : A → ℕ) (x : A) (xs ys : List A) → P x → AllByRecursion P xs → insert_numbered number x xs ≡ Some ys → AllByRecursion P ys
-insert_all P number x [] ys p all e = subst (λ (zs : List _). AllByRecursion P zs) (some_same (x ∷ []) ys (Some (x ∷ [])) refl e) (p, tt)
-insert_all {A} P number x (y ∷ xs) ys p all e =
-    let Q : Option (List A) → Type 0 = λ o. o ≡ Some ys → AllByRecursion P ys in
-    cond_both (ltb (number x) (number y)) (Some (x ∷ y ∷ xs)) _ Q (λ _ h. subst (AllByRecursion P) (some_same (x ∷ y ∷ xs) ys (Some (x ∷ y ∷ xs)) refl h) (p, (all.0, all.1)))
-    (λ _. cond_both (eqb (number x) (number y)) None _ Q (λ _ h. absurd cc)
-    (λ _ h. let m = map_some (λ zs. y ∷ zs) (insert_numbered number x xs) ys h in subst (AllByRecursion P) m.2 (all.0, insert_all P number x xs m.0 p all.1 m.1))) e
+insert_all P number x [] ys p all e = grind (arith, p, e)
+insert_all P number x (y ∷ xs) ys p all e = grind (arith, insert_all P number x xs, p, all, e)
 
 by_number_all : {A : Type 0} (P : A → Type 0) (number : A → ℕ) (xs ys : List A) → AllByRecursion P xs → by_number number xs ≡ Some ys → AllByRecursion P ys
-by_number_all P number [] ys all e = subst (λ (zs : List _). AllByRecursion P zs) (some_same [] ys (Some []) refl e) tt
+by_number_all P number [] ys all e = grind (arith, e)
 by_number_all P number (x ∷ xs) ys all e =
     let a = bind_some (by_number number xs) (λ zs. insert_numbered number x zs) ys e in
     insert_all P number x a.0 ys all.0 (by_number_all P number xs a.0 all.1 a.1) a.2
@@ -56,8 +50,7 @@ event_allowed known is e g h =
 
 own_all : (P : Event → Type 0) (id : ℕ) (es : List (ℕ × Event)) → AllByRecursion (λ e. P e.1) es → AllByRecursion P (events_of id es)
 own_all P id [] all = tt
-own_all P id (e ∷ es) all =
-    let rest = own_all P id es all.1 in cond_both (eqb e.0 id) (e.1 ∷ events_of id es) (events_of id es) (AllByRecursion P) (λ _. (all.0, rest)) (λ _. rest)
+own_all P id (e ∷ es) all = grind (arith, own_all P id es, all)
 
 -- ---- streams
 
@@ -66,12 +59,8 @@ abbrev IsHead : List (List ℕ) → Stream → Type 0
 IsHead clocks s =
     (es : List Event) → AllByRecursion (IsEvent clocks) es → NumbersRise (λ e. e.id) es → IsStream clocks (record s { events = es })
 
-has_meaning : (named plain : Bool) → (not named || plain) ≡ true → named ≡ true → plain ≡ true
-has_meaning true plain h e = h
-has_meaning false plain h e = absurd cc
-
 own_unsigned : (m : List ℕ × MemberType) → suits context_names m ≡ true → IsTrue (list_any (bytes_eq m.0) own_names) → IsUnsigned m.1
-own_unsigned m h own = unsigned m.1 (has_meaning (list_any (bytes_eq m.0) context_names) (is_unsigned m.1) h own)
+own_unsigned m h own = unsigned m.1 (grind (arith, h, own))
 
 id_unsigned : (m : List ℕ × MemberType) → suits (codes "id" ∷ []) m ≡ true → bytes_eq m.0 (codes "id") ≡ true → IsUnsigned m.1
 id_unsigned m h e = unsigned m.1 (at_name (suits (codes "id" ∷ [])) (codes "id") m h e)
@@ -124,6 +113,9 @@ AllGood iss = AllByRecursion (λ is. AreGood (items_toks is)) iss
 abbrev FactsGood : List NamedFact → Type 0
 FactsGood fs = AllByRecursion (λ f. AreGood (named_fact_toks f)) fs
 
+facts_good : (fs : List NamedFact) → AreGood (braced (flat_map named_fact_toks fs)) → FactsGood fs
+facts_good fs g = all_spelled named_fact_toks fs (inside (flat_map named_fact_toks fs) g)
+
 -- what is looked for in blocks of good atoms
 record BlocksGood (bs : List Block) : Type 0 where
   traces : AllGood (flat_map trace_in bs)
@@ -133,25 +125,13 @@ record BlocksGood (bs : List Block) : Type 0 where
 
 blocks_good : (bs : List Block) → AllByRecursion (λ b. AreGood (block_and_semicolon b)) bs → BlocksGood bs
 blocks_good [] g = record { traces = tt; streams = tt; events = tt; environments = tt }
-blocks_good (b ∷ bs) g = by b (all_front IsGood (block_toks b) (mark marks.Semicolon ∷ []) g.0) (blocks_good bs g.1)
-  where
-    by : (x : Block) → AreGood (block_toks x) → BlocksGood bs → BlocksGood (x ∷ bs)
-    by (blocks.Trace is) h r = record { traces = (h.1, r.traces); streams = r.streams; events = r.events; environments = r.environments }
-    by (blocks.Stream is) h r = record { traces = r.traces; streams = (h.1, r.streams); events = r.events; environments = r.environments }
-    by (blocks.Event is) h r = record { traces = r.traces; streams = r.streams; events = (h.1, r.events); environments = r.environments }
-    by (blocks.Clock is) h r = record { traces = r.traces; streams = r.streams; events = r.events; environments = r.environments }
-    by (blocks.Environment fs) h r =
-        record { traces = r.traces; streams = r.streams; events = r.events; environments = (all_spelled named_fact_toks fs (inside (flat_map named_fact_toks fs) h.1), r.environments) }
+blocks_good (b ∷ bs) g = grind (arith, all_front IsGood (block_toks b) (mark marks.Semicolon ∷ []) g.0, facts_good, blocks_good bs g.1)
 
 only_good : {A : Type 0} (P : A → Type 0) (xs : List A) (x : A) → AllByRecursion P xs → only xs ≡ Some x → P x
-only_good P [] x g e = absurd cc
-only_good P (y ∷ []) x g e = subst P (some_same y x (Some y) refl e) g.0
-only_good P (y ∷ z ∷ xs) x g e = absurd cc
+only_good P xs x g e = grind (arith, g, e)
 
 one_good : (xs : List (List NamedFact)) (fs : List NamedFact) → AllByRecursion FactsGood xs → at_most_one xs ≡ Some fs → FactsGood fs
-one_good [] fs g e = subst FactsGood (some_same [] fs (Some []) refl e) tt
-one_good (x ∷ []) fs g e = subst FactsGood (some_same x fs (Some x) refl e) g.0
-one_good (x ∷ y ∷ xs) fs g e = absurd cc
+one_good xs fs g e = grind (arith, g, e)
 
 -- ---- names that differ
 
@@ -162,22 +142,13 @@ neither w (x ∷ xs) h = let both = or_parts (bytes_eq w x) (list_any (bytes_eq 
 distinct : (xs : List (List ℕ)) → no_two bytes_eq xs ≡ true → IsDistinct bytes_eq xs
 unfolding IsDistinct
 distinct [] h = tt
-distinct (x ∷ xs) h =
-    let both = and_true (not (list_any (bytes_eq x) xs)) (no_two bytes_eq xs) h in (neither x xs (not-true (list_any (bytes_eq x) xs) both.0), distinct xs both.1)
+distinct (x ∷ xs) h = grind (arith, neither x xs, distinct xs, h)
 
 -- ---- the environment
 
-entry_name : (f : NamedFact) (e : EnvironmentEntry) → named_fact_meaning f ≡ Some e → e.name ≡ f.name
-entry_name f e h =
-    let m = map_some (λ (v : EnvironmentValue). record { name = f.name; value = v }) (fact_meaning f.fact) e h in ap (λ (x : EnvironmentEntry). x.name) (sym m.2)
-
 same_names : (fs : List NamedFact) (es : List EnvironmentEntry) → each named_fact_meaning fs ≡ Some es → map (λ e. e.name) es ≡ map (λ f. f.name) fs
-same_names [] es h = ap (λ (xs : List EnvironmentEntry). map (λ e. e.name) xs) (sym (some_same [] es (Some []) refl h))
-same_names (f ∷ fs) es h =
-    let a = bind_some (named_fact_meaning f) (λ y. each named_fact_meaning fs >>= λ ys. Some (y ∷ ys)) es h in
-    let b = bind_some (each named_fact_meaning fs) (λ ys. Some (a.0 ∷ ys)) es a.2 in
-    ap (λ (xs : List EnvironmentEntry). map (λ e. e.name) xs) (sym (some_same (a.0 ∷ b.0) es (Some (a.0 ∷ b.0)) refl b.2))
-    ∙ ap (λ (n : List ℕ). n ∷ map (λ e. e.name) b.0) (entry_name f a.0 a.1) ∙ ap (λ (ns : List (List ℕ)). f.name ∷ ns) (same_names fs b.0 b.1)
+same_names [] es h = grind (arith, h)
+same_names (f ∷ fs) es h = grind (arith, same_names fs, h)
 
 fact_names : (fs : List NamedFact) → FactsGood fs → AllByRecursion IsMetadataName (map (λ f. f.name) fs)
 fact_names [] g = tt
@@ -204,31 +175,10 @@ environment_allowed fs es g h =
 -- ---- the packet header
 
 magic_of : (m : MemberType) → is_unsigned_of 32 m ≡ true → IsMagic m
-magic_of (Plain (Int t)) h = let both = and_true (not t.signed) (eqb t.size 32) h in (not-true t.signed both.0, eqb-true t.size 32 both.1)
-magic_of (Plain (Enum t)) h = absurd cc
-magic_of (Plain Str) h = absurd cc
-magic_of (Plain (Static e n)) h = absurd cc
-magic_of (Dyn t l) h = absurd cc
-
-byte_of : (l : Leaf) → is_byte l ≡ true → IsByteType l
-byte_of (Number t) h =
-    let a = and_true (not t.signed && eqb t.size 8) (eqb t.align 8) h in let b = and_true (not t.signed) (eqb t.size 8) a.0 in
-    (not-true t.signed b.0, eqb-true t.size 8 b.1, eqb-true t.align 8 a.1)
-byte_of (Labelled t) h = absurd cc
-byte_of ByteString h = absurd cc
-
-flat_of : (ns : List ℕ) → is_flat ns ≡ true → ns ≡ []
-flat_of [] h = refl
-flat_of (n ∷ ns) h = absurd cc
+magic_of m h = grind (arith, nat_tests, h)
 
 identity_of : (m : MemberType) → is_uuid m ≡ true → IsIdentity m
-identity_of (Plain (Int t)) h = absurd cc
-identity_of (Plain (Enum t)) h = absurd cc
-identity_of (Plain Str) h = absurd cc
-identity_of (Plain (Static e n)) h =
-    let a = and_true (eqb n 16 && is_flat e.lengths) (is_byte e.leaf) h in let b = and_true (eqb n 16) (is_flat e.lengths) a.0 in
-    (eqb-true n 16 b.0, flat_of e.lengths b.1, byte_of e.leaf a.1)
-identity_of (Dyn t l) h = absurd cc
+identity_of m h = grind (arith, nat_tests, h)
 
 -- ---- the whole
 

@@ -1,10 +1,8 @@
 -- Types and structures that a metadata text means are those that the rules allow.
-use Rattle.std.proofs.Common.{◌≡◌, ℕ, suc, ◌-◌, ◌*◌, ◌<◌, ◌≤◌, ◌^◌, ℤ, pos, negsuc, ◌≤ℤ◌, Bool, true, false, cond, ◌&&◌, List, ◌∷◌, ◌++◌, length, max, get_or, slice_get, All, Contains, Option, Some, None, refl, sym, ap, subst, ◌∙◌, arith, codes, not, append-nil, append_assoc, []}
-use Rattle.tsdl_grammar.specs.IntegerMeaning.{clock_in}
-use Rattle.tsdl_meaning.proofs.TextWords.{AllByRecursion, AreMembers, Atom, Attribute, Bracket, ByteString, Chain, Dyn, Entries, Entry, Enum, HasBits, Int, IsCount, IsDistinct, IsField, IsLeaf, IsMappedTo, IsMember, IsMetadataName, IsNest, IsRange, IsStruct, IsUnsigned, Item, Kind, Known, Labelled, Leaf, MemberTree, MemberType, Plain, Scope, Static, Str, StructType, Structure, Value, align_of, align_toks, align_with, and_true, are_lengths, arrays_of, attr, bind_some, braced, bracket_toks, bracketed, bytes_eq, bytes_eq-Decides, clock_value, closing_toks, cond_both, count_of, each, elements_of, encoding_value, entries_of, entries_toks, entry_meaning, entry_toks, enum_meaning, field_of, flat_map, has_member, has_only, high_of, high_toks, int_le, int_meaning, int_toks, is_negative, is_unsigned, item_toks, items_toks, kind_meaning, kind_toks, label_toks, leb-true, length_place, list_all, list_any, ltb-true, map-append, map_some, mark, member_meaning, member_toks, members_meaning, name_toks, names_in, nat_le, nat_list_eq_equiv, nat_lt, neg_ℤ, next_entry_toks, not-true, number_toks, option_map, optional, or_parts, provided, provided_some, same_words, scope, scope_meaning, scope_toks, scopes_in, sign_toks, signed_of, some_same, struct_meaning, struct_toks, struct_type, structure_of, text_meaning, with_default, word, words_of, ◌>>=◌}
+use Rattle.std.proofs.Common.{◌≡◌, ℕ, suc, ◌-◌, ◌<◌, ◌≤◌, ◌^◌, ℤ, pos, negsuc, ◌≤ℤ◌, Bool, true, false, ◌&&◌, List, ◌∷◌, ◌++◌, length, slice_get, All, Option, Some, None, refl, sym, ap, subst, ◌∙◌, arith, codes, not, append-nil, append_assoc, []}
+use Rattle.tsdl_meaning.proofs.TextWords.{AllByRecursion, AreMembers, Atom, Attribute, Bracket, ByteString, Chain, Dyn, Entries, Entry, HasBits, IsCount, IsDistinct, IsField, IsLeaf, IsMappedTo, IsMember, IsMetadataName, IsNest, IsRange, IsStruct, IsUnsigned, Item, Kind, Known, Labelled, Leaf, MemberTree, MemberType, Plain, Scope, Str, StructType, Structure, Value, align_of, align_toks, align_with, and_true, are_lengths, arrays_of, bind_some, braced, bracket_toks, bracketed, bytes_eq, bytes_eq-Decides, clock_value, closing_toks, count_of, each, elements_of, entries_of, entries_toks, entry_meaning, entry_toks, enum_meaning, flat_map, has_member, high_of, high_toks, int_meaning, int_toks, is_unsigned, item_toks, items_toks, kind_meaning, kind_toks, label_toks, leb-true, length_place, list_all, list_any, ltb-true, map-append, map_some, mark, member_meaning, member_toks, members_meaning, name_toks, names_in, nat_le, nat_list_eq_equiv, nat_lt, next_entry_toks, not-true, number_toks, option_map, or_parts, provided, provided_some, scope, scope_meaning, scope_toks, scopes_in, sign_toks, signed_of, some_same, struct_meaning, struct_toks, struct_type, structure_of, text_meaning, word, ◌>>=◌}
 use Rattle.std.proofs.lemmas.Int.{ints}
-use Rattle.std.proofs.lemmas.Float.{T_from_true}
-use Rattle.std.specs.Int.Signed.{le_z_yes}
+use Rattle.std.proofs.lemmas.Bool.Decides.{nat_tests}
 use Rattle.std.proofs.lemmas.List.Elements.{All-from_recursion, All-weaker}
 use Rattle.std.proofs.lemmas.List.Sums.{AllPass-from_list_all}
 use Rattle.std.proofs.lemmas.List.Quantifiers.{position-Some}
@@ -20,7 +18,6 @@ use Rattle.ctf_types.specs.Allowed as allowed
 use Rattle.tsdl_grammar.specs.declared.atom.Atom.TheVariants as atoms
 use Rattle.tsdl_grammar.specs.declared.token.Mark.TheVariants as marks
 use Rattle.tsdl_grammar.specs.declared.tree.Number as numbers
-use Rattle.tsdl_grammar.specs.declared.tree.Value.TheVariants as values
 use Rattle.tsdl_grammar.specs.declared.tree.Entries.TheVariants as entries
 use Rattle.tsdl_grammar.specs.declared.tree.Kind.TheVariants as kinds
 use Rattle.tsdl_grammar.specs.declared.tree.Bracket.TheVariants as brackets
@@ -28,20 +25,15 @@ use Rattle.tsdl_grammar.proofs.MeaningParts.{says_integer, says_structure}
 use Rattle.tsdl_meaning.proofs.GoodAtoms.{IsGood, AreGood, all_front, all_back}
 use Rattle.tsdl_grammar.specs.declared.tree.Item.TheVariants as items
 use Rattle.tsdl_grammar.proofs.TypeParts.{struct_type-parts}
-use Rattle.tsdl_meaning.proofs.FlawlessItems.{all_more}
+use Rattle.tsdl_meaning.proofs.FlawlessItems.{all_more, all_weaker}
 
 -- ---- lists
 
 -- what is made of each item, where each item has what it needs
 pub each_keeps : {A B : Type 0} (f : A → Option B) (P : A → Type 0) (Q : B → Type 0) → ((x : A) (y : B) → P x → f x ≡ Some y → Q y)
     → (xs : List A) (ys : List B) → AllByRecursion P xs → each f xs ≡ Some ys → AllByRecursion Q ys × (length ys ≡ length xs)
-each_keeps {A} {B} f P Q h [] ys p e = subst (λ (zs : List B). AllByRecursion Q zs × (length zs ≡ 0)) (some_same [] ys (Some []) refl e) (tt, refl)
-each_keeps {A} {B} f P Q h (x ∷ xs) ys p e =
-    let a = bind_some (f x) (λ y. each f xs >>= λ zs. Some (y ∷ zs)) ys e in
-    let b = bind_some (each f xs) (λ zs. Some (a.0 ∷ zs)) ys a.2 in
-    let rest = each_keeps f P Q h xs b.0 p.1 b.1 in
-    subst (λ (zs : List B). AllByRecursion Q zs × (length zs ≡ suc (length xs))) (some_same (a.0 ∷ b.0) ys (Some (a.0 ∷ b.0)) refl b.2)
-    ((h x a.0 p.0 a.1, rest.0), ap suc rest.1)
+each_keeps f P Q h [] ys p e = grind (arith, e)
+each_keeps f P Q h (x ∷ xs) ys p e = grind (arith, h, each_keeps f P Q h xs, e)
 
 pub all_spelled : {A : Type 0} (toks : A → List Atom) (xs : List A) → AreGood (flat_map toks xs) → AllByRecursion (λ x. AreGood (toks x)) xs
 all_spelled toks [] g = tt
@@ -52,63 +44,35 @@ inside inner g = (all_front IsGood (mark marks.OpenBrace ∷ inner) (mark marks.
 
 -- ---- integers
 
-in_clocks : (clocks ws : List (List ℕ)) (name : List ℕ) → clock_in clocks ws ≡ Some name → Contains clocks name
-in_clocks clocks [] name e = absurd cc
-in_clocks clocks (a ∷ []) name e = absurd cc
-in_clocks clocks (a ∷ b ∷ []) name e = absurd cc
-in_clocks clocks (a ∷ b ∷ c ∷ []) name e =
-    let p = provided_some (bytes_eq a (codes "clock") && bytes_eq c (codes "value") && list_any (bytes_eq b) clocks) (Some b) name e in
-    let q = and_true (bytes_eq a (codes "clock") && bytes_eq c (codes "value")) (list_any (bytes_eq b) clocks) p.0 in
-    subst (Contains clocks) (some_same b name (Some b) refl p.1) (Contains-from_any (λ x y h. (bytes_eq-Decides x y).0 h) b clocks q.1)
-in_clocks clocks (a ∷ b ∷ c ∷ d ∷ ws) name e = absurd cc
-
-names_clock : (clocks : List (List ℕ)) (v : Value) (name : List ℕ) → clock_value clocks v ≡ Some name → Contains clocks name
+names_clock : (clocks : List (List ℕ)) (v : Value) (name : List ℕ) → clock_value clocks v ≡ Some name → list_any (bytes_eq name) clocks ≡ true
 unfolding clock_value
-names_clock clocks (values.Number n) name e = absurd cc
-names_clock clocks (values.Text s) name e = absurd cc
-names_clock clocks (values.Name n) name e = in_clocks clocks (words_of n) name e
+names_clock clocks v name e = grind (arith, e)
 
 pub mapped : (known : Known) (attrs : List Attribute) (t : IntType) → int_meaning known attrs ≡ Some t → IsMappedTo known.clocks t
-mapped known attrs t e name h = by (attr (codes "map") attrs) ((says_integer known attrs t e).clock ∙ ap (λ (o : Option (List ℕ)). Some o) h)
-  where
-    by : (v : Option Value) → optional (clock_value known.clocks) v ≡ Some (Some name) → Contains known.clocks name
-    by None e = absurd cc
-    by (Some v) e =
-        let m = map_some (λ (x : List ℕ). Some x) (clock_value known.clocks v) (Some name) e in
-        subst (Contains known.clocks) (some_same m.0 name (Some m.0) refl m.2) (names_clock known.clocks v m.0 m.1)
+mapped known attrs t e name h = Contains-from_any (λ x y same. (bytes_eq-Decides x y).0 same) name known.clocks (grind (arith, names_clock known.clocks, (says_integer known attrs t e).clock, h))
 
 -- ---- enumerations
 
-bounds : (b : Bool) (k : ℕ) → k < 2 ^ 64 → (negsuc (2 ^ 64 - 2) ≤ℤ cond b (neg_ℤ (pos k)) (pos k)) × (cond b (neg_ℤ (pos k)) (pos k) ≤ℤ pos (2 ^ 64 - 1))
-bounds true k h = (omega (arith, ints), omega (arith, ints))
-bounds false k h = (omega (arith, ints), omega (arith, ints))
-
 signed_bounds : (n : numbers.Number) → AreGood (number_toks n) → (negsuc (2 ^ 64 - 2) ≤ℤ signed_of n) × (signed_of n ≤ℤ pos (2 ^ 64 - 1))
-signed_bounds n g = bounds (is_negative n.sign) n.literal (all_back IsGood (sign_toks n.sign) (atoms.Number n.literal ∷ []) g).0
+signed_bounds n g = let small = (all_back IsGood (sign_toks n.sign) (atoms.Number n.literal ∷ []) g).0 in grind (arith, ints, small)
 
 high_bound : (low : ℤ) (high : Option numbers.Number) → low ≤ℤ pos (2 ^ 64 - 1) → AreGood (high_toks high) → high_of low high ≤ℤ pos (2 ^ 64 - 1)
-high_bound low None h g = h
-high_bound low (Some n) h g = (signed_bounds n g.1).1
+high_bound low high h g = grind (arith, signed_bounds, h, g)
 
 in_range : (e : Entry) (m : Mapping) → AreGood (entry_toks e) → entry_meaning e ≡ Some m → IsRange m
 unfolding entry_meaning
 in_range e m g h =
-    let low = signed_of e.low in let high = high_of low e.high in
     let front = label_toks e.label ++ mark marks.Equals ∷ number_toks e.low in
-    let low_good = (all_back IsGood (label_toks e.label) (mark marks.Equals ∷ number_toks e.low) (all_front IsGood front (high_toks e.high) g)).1 in
-    let b = signed_bounds e.low low_good in
-    let p = provided_some (int_le low high) _ m h in
-    subst IsRange (some_same _ m _ refl p.1) (record { ordered = le_z_yes (T_from_true (int_le low high) p.0); above = b.0; below = high_bound low e.high b.1 (all_back IsGood front (high_toks e.high) g) })
+    let low = signed_bounds e.low (all_back IsGood (label_toks e.label) (mark marks.Equals ∷ number_toks e.low) (all_front IsGood front (high_toks e.high) g)).1 in
+    let high = high_bound (signed_of e.low) e.high low.1 (all_back IsGood front (high_toks e.high) g) in
+    grind (arith, ints, low.0, high, h)
 
 entry_list : (es : Entries) → AreGood (entries_toks es) → AllByRecursion (λ e. AreGood (entry_toks e)) (entries_of es)
 entry_list entries.Empty g = tt
 entry_list (entries.Listed e es closing) g =
     let both = all_front IsGood (entry_toks e ++ flat_map next_entry_toks es) (closing_toks closing) g in
-    (all_front IsGood (entry_toks e) (flat_map next_entry_toks es) both, by es (all_back IsGood (entry_toks e) (flat_map next_entry_toks es) both))
-  where
-    by : (xs : List Entry) → AreGood (flat_map next_entry_toks xs) → AllByRecursion (λ x. AreGood (entry_toks x)) xs
-    by [] h = tt
-    by (x ∷ xs) h = (all_front IsGood (entry_toks x) (flat_map next_entry_toks xs) h.1, by xs (all_back IsGood (entry_toks x) (flat_map next_entry_toks xs) h.1))
+    let others = all_spelled next_entry_toks es (all_back IsGood (entry_toks e) (flat_map next_entry_toks es) both) in
+    (all_front IsGood (entry_toks e) (flat_map next_entry_toks es) both, all_weaker (λ x. AreGood (next_entry_toks x)) (λ x. AreGood (entry_toks x)) es (λ x h. h.1) others)
 
 enum_allowed : (clocks : List (List ℕ)) (int : IntType) (es : Entries) (t : EnumType) → IsMappedTo clocks int → AreGood (entries_toks es) → enum_meaning int es ≡ Some t → IsLeaf clocks (Labelled t)
 unfolding enum_meaning
@@ -124,10 +88,8 @@ enum_allowed clocks int es t m g e =
 
 text_allowed : (clocks : List (List ℕ)) (attrs : Option (List Attribute)) (leaf : Leaf) → text_meaning attrs ≡ Some leaf → IsLeaf clocks leaf
 unfolding text_meaning
-text_allowed clocks None leaf e = subst (IsLeaf clocks) (some_same ByteString leaf (Some ByteString) refl e) tt
-text_allowed clocks (Some attrs) leaf e =
-    let a = bind_some (provided (has_only ((codes "encoding" ∷ []) ∷ []) attrs) (with_default true encoding_value (attr (codes "encoding") attrs))) (λ _. Some ByteString) leaf e in
-    subst (IsLeaf clocks) (some_same ByteString leaf (Some ByteString) refl a.2) tt
+text_allowed clocks None leaf e = grind (arith, e)
+text_allowed clocks (Some attrs) leaf e = subst (IsLeaf clocks) (some_same ByteString leaf (Some ByteString) refl (bind_some _ (λ _. Some ByteString) leaf e).2) tt
 
 kind_allowed : (known : Known) (k : Kind) (leaf : Leaf) → AreGood (kind_toks k) → kind_meaning known k ≡ Some leaf → IsLeaf known.clocks leaf
 unfolding kind_meaning
@@ -146,21 +108,13 @@ kind_allowed known (kinds.Text attrs) leaf g e = text_allowed known.clocks attrs
 same_elements : (ns : List ℕ) → allowed.elements_of ns ≡ elements_of ns
 unfolding allowed.elements_of
 same_elements [] = refl
-same_elements (n ∷ ns) = ap (λ (k : ℕ). max 1 n * k) (same_elements ns)
-
-chain_of_field : (leaf : Leaf) → chain_of (field_of leaf) ≡ record { lengths = []; leaf = leaf }
-chain_of_field (Number t) = refl
-chain_of_field (Labelled t) = refl
-chain_of_field ByteString = refl
+same_elements (n ∷ ns) = grind (arith, same_elements ns)
 
 chain_of_arrays : (leaf : Leaf) (ns : List ℕ) → chain_of (arrays_of leaf ns) ≡ record { lengths = ns; leaf = leaf }
-chain_of_arrays leaf [] = chain_of_field leaf
-chain_of_arrays leaf (n ∷ ns) = refl
+chain_of_arrays leaf ns = grind arith
 
 nested : (ns : List ℕ) → are_lengths ns ≡ true → IsNest ns
-nested ns h =
-    let both = and_true (nat_le (length ns) 8) (nat_le (elements_of ns) (2 ^ 20)) h in
-    record { depth = leb-true (length ns) 8 both.0; size = omega (arith, leb-true (elements_of ns) (2 ^ 20) both.1, same_elements ns) }
+nested ns h = grind (arith, nat_tests, same_elements ns, h)
 
 array_allowed : (clocks : List (List ℕ)) (leaf : Leaf) (ns : List ℕ) → IsLeaf clocks leaf → IsNest ns → IsField clocks (arrays_of leaf ns)
 array_allowed clocks leaf ns l n = subst (λ (c : Chain). IsLeaf clocks c.leaf × IsNest c.lengths) (sym (chain_of_arrays leaf ns)) (l, n)
@@ -170,25 +124,16 @@ has_bits leaf ns h =
     subst (λ (c : Chain). All (λ (n : ℕ). 0 < n) c.lengths) (sym (chain_of_arrays leaf ns))
     (All-weaker (λ (n : ℕ). nat_lt 0 n ≡ true) (λ (n : ℕ). 0 < n) (λ n t. ltb-true 0 n t) ns (AllPass-from_list_all (nat_lt 0) ns h))
 
-counts : (m : List ℕ × MemberType) → is_unsigned m.1 ≡ true → IsCount (Some m)
-counts (name, Plain (Int t)) h = not-true t.signed h
-counts (name, Plain (Enum t)) h = absurd cc
-counts (name, Plain Str) h = absurd cc
-counts (name, Plain (Static e n)) h = absurd cc
-counts (name, Dyn t l) h = absurd cc
-
 place_counts : (before : List (List ℕ × MemberType)) (w : List ℕ) (i : ℕ) → length_place before w ≡ Some i → IsCount (slice_get before i)
 place_counts before w i e =
     let d : List ℕ × MemberType = ([], Plain Str) in
     let p = position-Some (λ m. bytes_eq w m.0 && is_unsigned m.1) before i d e in
-    let m = get_or before i d in
-    subst IsCount (sym (slice_get-get_or before i d p.0)) (counts m (and_true (bytes_eq w m.0) (is_unsigned m.1) p.1).1)
+    grind (arith, slice_get-get_or before i d p.0, p.1)
 
 bracketed_allowed : (clocks : List (List ℕ)) (before : List (List ℕ × MemberType)) (leaf : Leaf) (bs : List Bracket) (t : MemberType) → IsLeaf clocks leaf
     → bracketed before leaf bs ≡ Some t → IsMember clocks before t
 unfolding bracketed
-bracketed_allowed clocks before leaf [] t l e =
-    subst (IsMember clocks before) (some_same (Plain (field_of leaf)) t (Some (Plain (field_of leaf))) refl e) (array_allowed clocks leaf [] l (nested [] refl))
+bracketed_allowed clocks before leaf [] t l e = grind (arith, array_allowed clocks leaf [] l (nested [] refl), e)
 bracketed_allowed clocks before leaf (brackets.Count n ∷ bs) t l e =
     let a = bind_some (each count_of (brackets.Count n ∷ bs)) (λ lengths. provided (are_lengths lengths) (Some (Plain (arrays_of leaf lengths)))) t e in
     let b = provided_some (are_lengths a.0) (Some (Plain (arrays_of leaf a.0))) t a.2 in
@@ -204,19 +149,18 @@ bracketed_allowed clocks before leaf (brackets.Member w ∷ bs) t l e =
 
 -- ---- members
 
-pub name_good : (m : MemberTree) → AreGood (member_toks m) → IsGood (word m.name)
-name_good m g =
-    let front : List Atom = kind_toks m.kind ++ word m.name ∷ flat_map bracket_toks m.brackets in
-    (all_back IsGood (kind_toks m.kind) (word m.name ∷ flat_map bracket_toks m.brackets) (all_front IsGood front (mark marks.Semicolon ∷ []) g)).0
+parts_good : (m : MemberTree) → AreGood (member_toks m) → AreGood (kind_toks m.kind) × IsGood (word m.name)
+parts_good m g =
+    let rest : List Atom = word m.name ∷ flat_map bracket_toks m.brackets in
+    let both = all_front IsGood (kind_toks m.kind ++ rest) (mark marks.Semicolon ∷ []) g in
+    (all_front IsGood (kind_toks m.kind) rest both, (all_back IsGood (kind_toks m.kind) rest both).0)
 
 pub member_allowed : (known : Known) (before : List (List ℕ × MemberType)) (m : MemberTree) (t : MemberType) → AreGood (member_toks m) → member_meaning known before m ≡ Some t
     → IsMember known.clocks before t
 unfolding member_meaning
 member_allowed known before m t g e =
     let a = bind_some (kind_meaning known m.kind) (λ leaf. bracketed before leaf m.brackets) t e in
-    let front : List Atom = kind_toks m.kind ++ word m.name ∷ flat_map bracket_toks m.brackets in
-    let kind_good = all_front IsGood (kind_toks m.kind) (word m.name ∷ flat_map bracket_toks m.brackets) (all_front IsGood front (mark marks.Semicolon ∷ []) g) in
-    bracketed_allowed known.clocks before a.0 m.brackets t (kind_allowed known m.kind a.0 kind_good a.1) a.2
+    bracketed_allowed known.clocks before a.0 m.brackets t (kind_allowed known m.kind a.0 (parts_good m g).0 a.1) a.2
 
 -- ---- names that differ
 
@@ -267,15 +211,15 @@ members_allowed known before (m ∷ ms) out g d e =
       more = new ∷ r.more;
       whole = r.whole ∙ append_assoc before (new ∷ []) r.more;
       types = (member_allowed known before m a.0 g.0 p.1, r.types);
-      names = (name_good m g.0, r.names);
+      names = ((parts_good m g.0).1, r.names);
       distinct = r.distinct;
       many = ap (λ (n : ℕ). suc n) r.many;
     }
 
 -- ---- structures
 
-no_members : (members : List (List ℕ × MemberType)) (align min_align : ℕ) → Some (align_with members align) ≡ Some min_align → members ≡ [] → min_align ≡ 1
-no_members members align min_align e h = some_same min_align 1 (Some min_align) refl (sym e ∙ ap (λ (ms : List (List ℕ × MemberType)). Some (align_with ms align)) h)
+no_members : (members : List (List ℕ × MemberType)) (align : Option ℕ) (min_align : ℕ) → (align >>= λ a. Some (align_with members a)) ≡ Some min_align → members ≡ [] → min_align ≡ 1
+no_members members align min_align e h = grind (arith, e, h)
 
 pub struct_allowed : (known : Known) (s : Structure) (t : StructType) → AreGood (struct_toks s) → struct_meaning known s ≡ Some t → IsStruct known.clocks t
 struct_allowed known s t g e =
@@ -283,26 +227,20 @@ struct_allowed known s t g e =
     let front : List Atom = word (codes "struct") ∷ braced (flat_map member_toks s.members) in
     let good = all_spelled member_toks s.members (inside (flat_map member_toks s.members) (all_front IsGood front (align_toks s.align) g).1) in
     let made = members_allowed known [] s.members t.members good distinct_none says.members in
-    let a = bind_some (align_of s.align) (λ align. Some (align_with t.members align)) t.min_align says.align in
     record {
       members = subst (AreMembers known.clocks []) (sym made.whole) made.types;
       names = subst (λ (ms : List (List ℕ × MemberType)). All IsMetadataName (names_in ms)) (sym made.whole) (All-from_recursion IsMetadataName (names_in made.more) made.names);
       distinct = made.distinct;
       few = omega (arith, leb-true (length s.members) 1024 says.few, made.many, ap length made.whole);
-      empty = no_members t.members a.0 t.min_align a.2;
+      empty = no_members t.members (align_of s.align) t.min_align says.align;
     }
 
 no_structure : (clocks : List (List ℕ)) (t : StructType) → struct_type [] 1 ≡ Some t → IsStruct clocks t
 unfolding AreMembers
 no_structure clocks t e =
     let p = struct_type-parts [] 1 t e in
-    record {
-      members = subst (AreMembers clocks []) (sym p.0) tt;
-      names = subst (λ (ms : List (List ℕ × MemberType)). All IsMetadataName (names_in ms)) (sym p.0) (All-from_recursion IsMetadataName [] tt);
-      distinct = subst (λ (ms : List (List ℕ × MemberType)). IsDistinct bytes_eq (names_in ms)) (sym p.0) distinct_none;
-      few = omega (arith, ap length p.0);
-      empty = λ _. p.1;
-    }
+    let none = subst (λ (ms : List (List ℕ × MemberType)). AreMembers clocks [] ms × All IsMetadataName (names_in ms) × IsDistinct bytes_eq (names_in ms)) (sym p.0) (tt, All-from_recursion IsMetadataName [] tt, distinct_none) in
+    record { members = none.0; names = none.1; distinct = none.2; few = omega (arith, ap length p.0); empty = λ _. p.1 }
 
 -- ---- scopes
 
@@ -318,9 +256,7 @@ structure_good s g =
 
 found_good : (n : List (List ℕ)) (ss : List Scope) (s : Structure) → AllByRecursion (λ x. AreGood (scope_toks x)) ss → scope n ss ≡ Some s → AreGood (struct_toks s)
 found_good n [] s g e = absurd cc
-found_good n (x ∷ ss) s g e =
-    cond_both (same_words (words_of x.name) n) (Some x.structure) (scope n ss) (λ o. o ≡ Some s → AreGood (struct_toks s))
-    (λ _ h. subst (λ (y : Structure). AreGood (struct_toks y)) (some_same x.structure s (Some x.structure) refl h) (structure_good x g.0)) (λ _. found_good n ss s g.1) e
+found_good n (x ∷ ss) s g e = grind (arith, structure_good x, found_good n ss s, g, e)
 
 structure_allowed : (known : Known) (o : Option Structure) (t : StructType) → ((s : Structure) → o ≡ Some s → AreGood (struct_toks s)) → structure_of known o ≡ Some t → IsStruct known.clocks t
 structure_allowed known None t g e = no_structure known.clocks t e
@@ -339,11 +275,7 @@ scope_allowed known name test is t g e =
 -- ---- members that a test passed
 
 pub unsigned : (m : MemberType) → is_unsigned m ≡ true → IsUnsigned m
-unsigned (Plain (Int t)) h = not-true t.signed h
-unsigned (Plain (Enum t)) h = absurd cc
-unsigned (Plain Str) h = absurd cc
-unsigned (Plain (Static e n)) h = absurd cc
-unsigned (Dyn t l) h = absurd cc
+unsigned m h = grind (arith, h)
 
 -- each member that a test passed has what the test says of its name
 pub each_has : (test : List ℕ × MemberType → Bool) (P : List ℕ × MemberType → Type 0) → ((m : List ℕ × MemberType) → test m ≡ true → P m)

@@ -1,6 +1,6 @@
 -- The parts of a block where it is judged: its attributes, its scopes, its tables, and numbers that stand twice.
-use Rattle.std.proofs.Common.{◌≡◌, ℕ, ◌+◌, List, ◌∷◌, ◌++◌, Some, None, min, refl, sym, ap, ◌∙◌, subst, inl, inr, arith, append_assoc, codes, Result, Bool, true, false, not, ◌&&◌, cond, Option, Bor, []}
-use Rattle.tsdl_meaning.proofs.TextWords.{AddsAttribute, AddsName, AreNamed, Asked, Atom, Attribute, BTreeSet, Ends, Global, HasClock, HasEvent, HasNumbers, HasStream, IfErr, IfOk, IsAttribute, IsErrAnd, IsPartOfVersion, IsTwice, IsUnsupported, Item, Name, Scope, ScopeRule, Stop, StopsWhere, String, Value, alone, attr, attr_toks, attrs_in, begun, dotted, first_texts, fits, fits_word, flat_map, list_all, mark, most, name_toks, name_value, named_rules, natural_value, one_word, rule_in, same_words, scope_toks, stops_after, struct_toks, texts_of, value_toks, word, IfErr-weaker, IfOk-weaker}
+use Rattle.std.proofs.Common.{◌≡◌, ℕ, ◌+◌, List, ◌∷◌, ◌++◌, Some, None, min, refl, sym, ap, ◌∙◌, subst, inl, inr, arith, append_assoc, codes, Result, Bool, true, not, Option, Bor, []}
+use Rattle.tsdl_meaning.proofs.TextWords.{AddsAttribute, AddsName, AreNamed, Asked, Atom, Attribute, BTreeSet, Ends, Global, HasClock, HasEvent, HasNumbers, HasStream, IfErr, IfOk, IsAttribute, IsErrAnd, IsPartOfVersion, IsTwice, IsUnsupported, Item, Name, Scope, ScopeRule, Stop, StopsWhere, String, Value, attr, attr_toks, attrs_in, begun, first_texts, fits, fits_word, list_all, mark, most, name_toks, name_value, named_rules, natural_value, one_word, rule_in, same_words, scope_toks, stops_after, struct_toks, texts_of, value_toks, word, IfErr-weaker, IfOk-weaker}
 use Rattle.tsdl_grammar.specs.declared.token.Mark.TheVariants as marks
 use Rattle.tsdl_grammar.specs.declared.tree.Value.TheVariants as values
 use Rattle.tsdl_grammar.specs.declared.token.Mark.{Mark}
@@ -10,12 +10,8 @@ use Rattle.std.specs.List.{find}
 
 -- ---- the value of an attribute
 
-alone_toks : (first : List ℕ) (rest : List (List ℕ)) (w : List ℕ) → alone first rest ≡ Some w → word first ∷ flat_map dotted rest ≡ word w ∷ []
-alone_toks first [] w h = let e : first ≡ w = cc in ap (λ (n : List ℕ). word n ∷ []) e
-alone_toks first (x ∷ xs) w h = absurd (let e : None ≡ Some w = h in cc)
-
 pub only_word : (n : Name) (w : List ℕ) → one_word n ≡ Some w → name_toks n ≡ word w ∷ []
-only_word n w h = alone_toks n.first n.rest w h
+only_word n w h = grind (arith, h)
 
 -- what the judge of a value answers is an answer for its attribute, whose name is one word
 pub in_value : (P Q : List Atom → Type 0) (r : Result (Unit {0}) Stop) (a : Attribute) (w : List ℕ) (at place : ℕ) → one_word a.name ≡ Some w → place ≡ min (at + 2) most
@@ -85,22 +81,13 @@ scope_opening s behind = scope_parts s behind ∙ sym (append_assoc (name_toks s
 -- where no row of a table is missed, each of its names is there
 pub none_missed : (there : List ℕ → Bool) (rows : List (Bor (List ℕ) × Bor (List ℕ))) → find (λ row. not (there row.0.now)) rows ≡ None → list_all there (first_texts rows) ≡ true
 none_missed there [] e = refl
-none_missed there (row ∷ rows) e = by (there row.0.now) row (find (λ r. not (there r.0.now)) rows) (list_all there (first_texts rows)) e (none_missed there rows)
-  where
-    by : {A : Type 0} (b : Bool) (x : A) (later : Option A) (all : Bool) → cond (not b) (Some x) later ≡ None → (later ≡ None → all ≡ true) → (b && all) ≡ true
-    by true x later all e h = h e
-    by false x later all e h = absurd cc
+none_missed there (row ∷ rows) e = grind (arith, none_missed there rows, e)
 
 -- the row of a scope says its rule
 pub rule_found : (n : List (List ℕ)) (rows : List (Bor (List (Bor (List ℕ))) × ScopeRule)) (row : Bor (List (Bor (List ℕ))) × ScopeRule)
     → find (λ r. same_words n (texts_of r.0.now)) rows ≡ Some row → rule_in (named_rules rows) n ≡ Some row.1
 rule_found n [] row e = absurd cc
-rule_found n (r ∷ rows) row e = by (same_words n (texts_of r.0.now)) (find (λ x. same_words n (texts_of x.0.now)) rows) (rule_in (named_rules rows) n) e (rule_found n rows row)
-  where
-    by : (b : Bool) (later : Option (Bor (List (Bor (List ℕ))) × ScopeRule)) (rule : Option ScopeRule) → cond b (Some r) later ≡ Some row → (later ≡ Some row → rule ≡ Some row.1)
-        → cond b (Some r.1) rule ≡ Some row.1
-    by true later rule e h = cc
-    by false later rule e h = h e
+rule_found n (r ∷ rows) row e = grind (arith, rule_found n rows row, e)
 
 -- a stream without a number, behind one that has the number 0
 pub unnumbered_twice : (items : List Item) (front : List Atom) → Ends front (begun (codes "stream") items) → attr (codes "id") (attrs_in items) ≡ None → HasStream front 0

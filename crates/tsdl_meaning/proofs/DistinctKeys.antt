@@ -1,6 +1,6 @@
 -- Lists of which no two items are the same, walked from the last item to the first.
-use Rattle.std.proofs.Common.{◌≡◌, Bool, true, false, not, cond, ◌&&◌, ◌||◌, List, ◌∷◌, ◌++◌, map, refl, sym, ap, ap₂, ◌∙◌, ℕ, Bor, nat_cmp, []}
-use Rattle.tsdl_meaning.proofs.TextWords.{BTreeSet, Global, HasNames, IsTotalOrder, String, are_distinct, bytes_eq, contains_text, eq_by_cmp, eq_by_cmp_equiv, is_at, list_any, lists_ties, name_lists, nat_list_eq_equiv, no_two, not-true, pointwise, same_words, slice_cmp, texts_of, texts_ties, or-false, and-false, or_assoc, not-false}
+use Rattle.std.proofs.Common.{◌≡◌, Bool, true, false, not, cond, ◌&&◌, ◌||◌, List, ◌∷◌, ◌++◌, map, refl, sym, ap, ap₂, ◌∙◌, ℕ, Bor, nat_cmp, [], arith}
+use Rattle.tsdl_meaning.proofs.TextWords.{BTreeSet, Global, HasNames, IsTotalOrder, String, are_distinct, bytes_eq, contains_text, eq_by_cmp, eq_by_cmp_equiv, is_at, list_any, lists_ties, name_lists, nat_list_eq_equiv, no_two, not-true, pointwise, same_words, slice_cmp, texts_of, texts_ties, or-false, or_assoc}
 use Rattle.std.specs.declared.cmp.Ordering.{Ordering}
 use Rattle.tsdl_meaning.specs.Distinct.{no_two_before}
 use Rattle.std.specs.Global.{Vec}
@@ -21,27 +21,17 @@ at_first cmp keys xs e = ap (λ (ks : List _). no_two_before (eq_by_cmp cmp) (λ
 
 twice : {A : Type 0} (same : A → A → Bool) (behind : A → Bool) (x : A) (xs : List A) → behind x ≡ true → no_two_before same behind (xs ++ x ∷ []) ≡ false
 twice same behind x [] h = rw h refl
-twice same behind x (y ∷ xs) h =
-    ap (λ (b : Bool). not (list_any (same y) (xs ++ x ∷ []) || behind y) && b) (twice same behind x xs h) ∙ and-false (not (list_any (same y) (xs ++ x ∷ []) || behind y))
+twice same behind x (y ∷ xs) h = grind (arith, twice same behind x xs h)
 
 once : {A : Type 0} (same : A → A → Bool) (behind more : A → Bool) (x : A) (xs : List A) → behind x ≡ false → ((w : A) → more w ≡ (same w x || behind w))
     → no_two_before same behind (xs ++ x ∷ []) ≡ no_two_before same more xs
 once same behind more x [] h e = rw h refl
-once same behind more x (y ∷ xs) h e =
-    ap₂ (λ (a b : Bool). not a && b)
-    (ap (λ (b : Bool). b || behind y) (any_behind (same y) xs x) ∙ or_assoc (list_any (same y) xs) (same y x) (behind y) ∙ ap (λ (b : Bool). list_any (same y) xs || b) (sym (e y)))
-    (once same behind more x xs h e)
-
-by_cond : (b c : Bool) → cond b true c ≡ (b || c)
-by_cond true c = refl
-by_cond false c = refl
+once same behind more x (y ∷ xs) h e = grind (arith, any_behind (same y) xs x, once same behind more x xs h e, e y)
 
 module _ {A : Type 0} (cmp : A → A → Ordering) (old left rest : List A) (x : A) (all added : Bool) where
   -- the key is among those behind it
   pub stands_twice : left ≡ rest ++ x ∷ [] → no_two_before (eq_by_cmp cmp) (λ w. list_any (is_at (cmp w)) old) left ≡ all → added ≡ not (list_any (is_at (cmp x)) old) → added ≡ false → false ≡ all
-  stands_twice e h a f =
-      sym (twice (eq_by_cmp cmp) (λ w. list_any (is_at (cmp w)) old) x rest (not-false (list_any (is_at (cmp x)) old) (sym a ∙ f)))
-      ∙ ap (λ (l : List _). no_two_before (eq_by_cmp cmp) (λ w. list_any (is_at (cmp w)) old) l) (sym e) ∙ h
+  stands_twice e h a f = grind (arith, twice (eq_by_cmp cmp) (λ w. list_any (is_at (cmp w)) old) x rest, e, h, a, f)
 
   -- the key joins those behind the keys before it
   pub stands_once : (new : List A) → IsTotalOrder cmp → left ≡ rest ++ x ∷ [] → no_two_before (eq_by_cmp cmp) (λ w. list_any (is_at (cmp w)) old) left ≡ all
@@ -50,7 +40,7 @@ module _ {A : Type 0} (cmp : A → A → Ordering) (old left rest : List A) (x :
   stands_once new o e h a t u =
       sym
       (once (eq_by_cmp cmp) (λ w. list_any (is_at (cmp w)) old) (λ w. list_any (is_at (cmp w)) new) x rest (not-true (list_any (is_at (cmp x)) old) (sym a ∙ t))
-      (λ w. u w ∙ by_cond (is_at (cmp x) w) (list_any (is_at (cmp w)) old) ∙ ap (λ (b : Bool). b || list_any (is_at (cmp w)) old) ((eq_by_cmp_equiv o).symm x w)))
+      (λ w. grind (arith, u w, (eq_by_cmp_equiv o).symm x w)))
       ∙ ap (λ (l : List _). no_two_before (eq_by_cmp cmp) (λ w. list_any (is_at (cmp w)) old) l) (sym e) ∙ h
 
 -- ---- the same items, seen otherwise
@@ -63,21 +53,13 @@ no_two_seen same equal view (x ∷ xs) h = ap₂ (λ (a b : Bool). not a && b) (
     any [] = refl
     any (y ∷ ys) = ap₂ (λ (a b : Bool). a || b) (h x y) (any ys)
 
-pub or_swap : (b c : Bool) → cond b true c ≡ (c || b)
-or_swap true true = refl
-or_swap true false = refl
-or_swap false true = refl
-or_swap false false = refl
-
 pub distinct_texts : (words : List (Bor (List ℕ))) (texts : List (List ℕ)) → texts_of words ≡ texts → no_two (eq_by_cmp (λ x y. slice_cmp nat_cmp x.now y.now)) words ≡ no_two bytes_eq texts
 distinct_texts words texts e =
     no_two_seen (eq_by_cmp (λ x y. slice_cmp nat_cmp x.now y.now)) bytes_eq (λ w. w.now) words (λ x y. sym (texts_ties x.now y.now)) ∙ ap (no_two bytes_eq) e
 
 same_texts : (xs ys : List (Bor (List ℕ))) → pointwise (λ v w. bytes_eq v.now w.now) xs ys ≡ same_words (texts_of xs) (texts_of ys)
-same_texts [] [] = refl
-same_texts [] (y ∷ ys) = refl
-same_texts (x ∷ xs) [] = refl
-same_texts (x ∷ xs) (y ∷ ys) = ap (λ (b : Bool). bytes_eq x.now y.now && b) (same_texts xs ys)
+same_texts [] ys = grind arith
+same_texts (x ∷ xs) ys = grind (arith, same_texts xs)
 
 pub distinct_names : (names : Vec (Vec (Bor (List ℕ)))) (ns : List (List (List ℕ))) → name_lists names ≡ ns
     → no_two (eq_by_cmp (λ x y. slice_cmp (λ v w. slice_cmp nat_cmp v.now w.now) x.items y.items)) names.items ≡ are_distinct ns
@@ -89,6 +71,4 @@ distinct_names names ns e =
 -- one more name
 pub one_name : (old new : BTreeSet (String Global)) (before names : List (List ℕ)) (name : List ℕ) → names ≡ before ++ name ∷ [] → HasNames old before
     → ((w : List ℕ) → contains_text new w ≡ cond (bytes_eq name w) true (contains_text old w)) → HasNames new names
-one_name old new before names name e h u w =
-    u w ∙ or_swap (bytes_eq name w) (contains_text old w) ∙ ap (λ (b : Bool). contains_text old w || b) (nat_list_eq_equiv.symm name w) ∙ ap (λ (b : Bool). b || bytes_eq w name) (h w)
-    ∙ sym (any_behind (bytes_eq w) before name) ∙ ap (list_any (bytes_eq w)) (sym e)
+one_name old new before names name e h u w = grind (arith, u w, nat_list_eq_equiv.symm name w, h w, any_behind (bytes_eq w) before name, e)

@@ -1,6 +1,6 @@
 -- What blocks without a flaw mean.
-use Rattle.std.proofs.Common.{◌≡◌, ℕ, ◌==◌, Bool, true, false, not, ◌&&◌, ◌||◌, List, ◌∷◌, map, Option, Some, None, refl, sym, ap, subst, ◌∙◌, inl, inr, pos, []}
-use Rattle.tsdl_meaning.proofs.TextWords.{AllByRecursion, AreFlawless, BlockKind, ByteOrder, ClockType, ContainsKey, Event, HasNumbers, IsFlawlessBlock, IsFlawlessScope, Item, Known, Ledger, Scope, ScopeRule, Stream, StructType, Value, and_from, and_true, are_distinct, attr, attr_names, attrs_in, cases_Bool, clock_meaning, clock_name, codes, contains, contains_text, event_context, event_header, event_meaning, fields_scope, fits, flag_value, has_in_context, has_number, has_parts, has_sizes, header_meaning, is_among, is_fit, is_number, is_some, is_trace, list_all, meant_by, name_value, nat_cmp, natural_value, not-true, number_or_zero, of_clock, of_event, of_stream, of_trace, option_map_or, order_table, packet_context, packet_header, pair_cmp, rule_in, same_words, scope, scopes_in, scopes_of, specific_context, stream_meaning, text_value, trace_order, trace_uuid, uuid_value, whole_value, with_default, word_value, words_of, ◌>>=◌}
+use Rattle.std.proofs.Common.{◌≡◌, ℕ, ◌==◌, Bool, true, false, not, ◌&&◌, List, ◌∷◌, map, Option, Some, None, refl, sym, ap, subst, ◌∙◌, pos, [], arith}
+use Rattle.tsdl_meaning.proofs.TextWords.{AllByRecursion, AreFlawless, BlockKind, ByteOrder, ClockType, ContainsKey, Event, HasNumbers, IsFlawlessBlock, IsFlawlessScope, Item, Known, Ledger, Scope, ScopeRule, Stream, StructType, Value, and_true, are_distinct, attr, attr_names, attrs_in, clock_meaning, clock_name, codes, contains, contains_text, event_context, event_header, event_meaning, fields_scope, fits, flag_value, has_in_context, has_number, has_parts, has_sizes, header_meaning, is_among, is_fit, is_number, is_some, is_trace, list_all, meant_by, name_value, nat_cmp, natural_value, not-true, number_or_zero, of_clock, of_event, of_stream, of_trace, option_map_or, order_table, packet_context, packet_header, pair_cmp, rule_in, scope, scopes_in, scopes_of, specific_context, stream_meaning, text_value, trace_order, trace_uuid, uuid_value, whole_value, with_default, word_value, words_of, ◌>>=◌}
 use Rattle.tsdl_meaning.specs.declared.judge.block.BlockKind.TheVariants as kinds
 use Rattle.tsdl_meaning.specs.declared.scope_rule.ScopeRule.TheVariants.{AnyMembers, PacketHeader, PacketContext, EventHeader}
 use Rattle.tsdl_meaning.proofs.FlawlessItems.{passes_of, some_is, there_of, value_fits, needed_is, default_is, option_is, scope_means, has_alike}
@@ -12,18 +12,12 @@ three a b c e f g = rw (e, f, g) refl
 
 among : (n : List (List ℕ)) (rule : ScopeRule) (rows : List (List (List ℕ) × ScopeRule)) → rule_in rows n ≡ Some rule → is_among (map (λ row. row.0) rows) n ≡ true
 among n rule [] e = absurd cc
-among n rule (row ∷ rows) e =
-    elim (cases_Bool (same_words n row.0)) [
-      | inl t ↦ ap (λ (b : Bool). b || is_among (map (λ r. r.0) rows) n) t
-      | inr f ↦ (let later : rule_in rows n ≡ Some rule = sym (rw f refl) ∙ e in ap (λ (b : Bool). b || is_among (map (λ r. r.0) rows) n) f ∙ among n rule rows later)
-    ]
+among n rule (row ∷ rows) e = grind (arith, among n rule rows, e)
 
 all_among : (known : Known) (kind : BlockKind) (scopes : List Scope) → AllByRecursion (IsFlawlessScope known kind) scopes
     → list_all (λ s. is_among (map (λ row. row.0) (scopes_of kind)) (words_of s.name)) scopes ≡ true
 all_among known kind [] all = refl
-all_among known kind (s ∷ scopes) all =
-    and_from (is_among (map (λ row. row.0) (scopes_of kind)) (words_of s.name)) (list_all (λ x. is_among (map (λ row. row.0) (scopes_of kind)) (words_of x.name)) scopes)
-    (among (words_of s.name) all.0.rule (scopes_of kind) all.0.asks) (all_among known kind scopes all.1)
+all_among known kind (s ∷ scopes) all = grind (arith, among (words_of s.name) all.0.rule (scopes_of kind) all.0.asks, all_among known kind scopes all.1)
 
 parts_are : (known : Known) (kind : BlockKind) (ledger : Ledger) (is : List Item) → AreFlawless known kind ledger is → has_parts (map (λ row. row.0) (scopes_of kind)) is ≡ true
 parts_are known kind ledger is f =

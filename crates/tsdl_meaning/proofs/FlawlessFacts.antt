@@ -1,6 +1,6 @@
 -- The entries of an environment: what those without a flaw mean, and names that stand twice.
-use Rattle.std.proofs.Common.{◌≡◌, ℕ, ◌≤◌, Bool, true, false, ◌&&◌, List, ◌∷◌, ◌++◌, map, length, Option, Some, refl, sym, ap, ◌∙◌, arith, length-append, inl, bytes_eq, []}
-use Rattle.tsdl_meaning.proofs.TextWords.{AddsFact, AllByRecursion, Atom, EndsFacts, EnvironmentEntry, IsTwice, MeanEntries, Name, NamedFact, and_from, bind_some, bytes_eq, bytes_eq-Decides, each, environment_meaning, fact_meaning, fact_toks, flat_map, list_any, map-append, mark, named_fact_meaning, named_fact_toks, nat_le, nat_list_eq_equiv, no_two, option_map, or_parts, provided, some_same, word, ◌>>=◌}
+use Rattle.std.proofs.Common.{◌≡◌, ℕ, ◌≤◌, true, false, List, ◌∷◌, ◌++◌, map, length, Option, Some, refl, sym, ap, ◌∙◌, arith, length-append, inl, bytes_eq, []}
+use Rattle.tsdl_meaning.proofs.TextWords.{AddsFact, AllByRecursion, Atom, EndsFacts, EnvironmentEntry, IsTwice, MeanEntries, Name, NamedFact, bytes_eq, bytes_eq-Decides, each, environment_meaning, fact_meaning, fact_toks, flat_map, list_any, map-append, mark, named_fact_meaning, named_fact_toks, nat_list_eq_equiv, no_two, option_map, word}
 use Rattle.std.proofs.lemmas.Bool.Decides.{nat_tests}
 use Rattle.tsdl_meaning.proofs.Fronts.{any_mapped}
 use Rattle.tsdl_meaning.proofs.FlawlessItems.{no_two_more, some_is}
@@ -9,11 +9,8 @@ use Rattle.tsdl_grammar.specs.declared.token.Mark.TheVariants as marks
 
 -- what is made of one more item
 pub each_more : {A B : Type 0} (f : A → Option B) (xs : List A) (ys : List B) (x : A) (y : B) → each f xs ≡ Some ys → f x ≡ Some y → each f (xs ++ x ∷ []) ≡ Some (ys ++ y ∷ [])
-each_more {A} {B} f [] ys x y e h = rw h (ap (λ (l : List B). Some (l ++ y ∷ [])) (some_same [] ys (Some []) refl e))
-each_more {A} {B} f (z ∷ xs) ys x y e h =
-    let a = bind_some (f z) (λ u. each f xs >>= λ us. Some (u ∷ us)) ys e in
-    let b = bind_some (each f xs) (λ us. Some (a.0 ∷ us)) ys a.2 in
-    rw (a.1, each_more f xs b.0 x y b.1 h) (ap (λ (l : List B). Some (l ++ y ∷ [])) (some_same (a.0 ∷ b.0) ys (Some (a.0 ∷ b.0)) refl b.2))
+each_more f [] ys x y e h = grind (arith, e, h)
+each_more f (z ∷ xs) ys x y e h = grind (arith, λ (us : List _). each_more f xs us x y, e, h)
 
 -- the entries so far
 pub record Facts (facts : List NamedFact) : Type 0 where
@@ -25,7 +22,7 @@ pub record Facts (facts : List NamedFact) : Type 0 where
 -- none of the words is the other
 apart : (w : List ℕ) (words : List (List ℕ)) → list_any (bytes_eq w) words ≡ false → AllByRecursion (λ x. bytes_eq x w ≡ false) words
 apart w [] e = tt
-apart w (x ∷ words) e = (nat_list_eq_equiv.symm x w ∙ (or_parts (bytes_eq w x) (list_any (bytes_eq w) words) e).0, apart w words (or_parts (bytes_eq w x) (list_any (bytes_eq w) words) e).1)
+apart w (x ∷ words) e = grind (arith, nat_list_eq_equiv.symm x w, apart w words, e)
 
 pub fact_more : (facts : List NamedFact) (fact : NamedFact) → Facts facts → AddsFact facts fact → Facts (facts ++ fact ∷ [])
 fact_more facts fact s adds =
@@ -47,11 +44,7 @@ no_facts = record { few = omega arith; once = refl; entries = []; mean = refl }
 
 pub facts_mean : (facts : List NamedFact) → Facts facts → MeanEntries facts
 unfolding environment_meaning
-facts_mean facts s =
-    let n = s.few in
-    let few : nat_le (length facts) 256 ≡ true = grind (arith, nat_tests) in
-    let both : (nat_le (length facts) 256 && no_two bytes_eq (map (λ f. f.name) facts)) ≡ true = and_from (nat_le (length facts) 256) (no_two bytes_eq (map (λ f. f.name) facts)) few s.once in
-    (s.entries, ap (λ (b : Bool). provided b (each named_fact_meaning facts)) both ∙ s.mean)
+facts_mean facts s = (s.entries, grind (arith, nat_tests, s.few, s.once, s.mean))
 
 -- an entry of a name that another has
 pub fact_twice : (w : List ℕ) (facts : List NamedFact) (front : List Atom) → list_any (bytes_eq w) (map (λ f. f.name) facts) ≡ true → EndsFacts facts front

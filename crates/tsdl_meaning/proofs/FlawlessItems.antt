@@ -1,7 +1,7 @@
 -- Names, attributes and scopes without a flaw, one behind the other, and what is looked up among them.
-use Rattle.std.proofs.Common.{◌≡◌, ℕ, Bool, true, false, not, ◌&&◌, List, ◌∷◌, ◌++◌, refl, ap, ap₂, ◌∙◌, inl, inr, Option, Some, None, sym, subst, map, append_assoc, []}
+use Rattle.std.proofs.Common.{◌≡◌, ℕ, Bool, true, false, ◌&&◌, List, ◌∷◌, ◌++◌, refl, ap, ◌∙◌, Option, Some, None, sym, subst, map, append_assoc, [], arith}
 use Rattle.tsdl_meaning.proofs.MemberNames.{member_there}
-use Rattle.tsdl_meaning.proofs.TextWords.{AddsAttribute, AddsName, AddsScope, AllByRecursion, AreFlawless, Asked, Attribute, BTreeSet, BlockKind, Global, HasNames, IsFlawlessScope, Item, Known, Ledger, MemberTree, MemberType, Name, Scope, ScopeRule, String, StructType, Structure, Value, alone, and_from, and_true, append-nil, are_distinct, asked_of, attr, attr_in, attrs_in, bind_is, bind_some, bytes_eq, bytes_eq-Decides, cases_Bool, eqb-true, false≢true, fits, fits_word, flat_map, has_member, is_fit, is_some, is_word, list_all, list_any, ltb-true, map-append, member_names, members_meaning, names_in, no_two, not-true, not_from_false, one_word, option_map, option_map_or, optional, or_parts, provided, rule_in, same_words, scope, scope_in, scopes_in, scopes_of, some_same, struct_type, structure_of, suits_rule, with_default, with_dot, words_of, written, ◌>>=◌, or_from, false_from_ne_true}
+use Rattle.tsdl_meaning.proofs.TextWords.{AddsAttribute, AddsName, AddsScope, AllByRecursion, AreFlawless, Asked, Attribute, BTreeSet, BlockKind, Global, HasNames, IsFlawlessScope, Item, Known, Ledger, MemberTree, MemberType, Name, Scope, ScopeRule, String, StructType, Structure, Value, and_from, append-nil, are_distinct, asked_of, attr, attr_in, attrs_in, bind_is, bind_some, bytes_eq, bytes_eq-Decides, eqb-true, false≢true, fits, flat_map, has_member, is_fit, is_some, is_word, list_all, list_any, ltb-true, map-append, member_names, members_meaning, names_in, no_two, one_word, option_map, option_map_or, optional, provided, rule_in, same_words, scope, scope_in, scopes_in, scopes_of, some_same, struct_type, structure_of, suits_rule, with_default, with_dot, words_of, written, ◌>>=◌, false_from_ne_true}
 use Rattle.std.proofs.lemmas.List.Concat.{flat_map-append}
 use Rattle.tsdl_meaning.proofs.DistinctKeys.{any_behind, one_name}
 use Rattle.tsdl_grammar.proofs.TypeParts.{struct_type-own}
@@ -29,20 +29,13 @@ all_one_more f xs x all one = list_all-append f xs (x ∷ []) ∙ and_from (list
 -- one more item that is none of the others
 pub no_two_more : {A : Type 0} (same : A → A → Bool) (xs : List A) (x : A) → AllByRecursion (λ y. same y x ≡ false) xs → no_two same xs ≡ true → no_two same (xs ++ x ∷ []) ≡ true
 no_two_more same [] x others d = refl
-no_two_more same (y ∷ ys) x others d =
-    let none = not-true (list_any (same y) ys) (and_true (not (list_any (same y) ys)) (no_two same ys) d).0 in
-    and_from (not (list_any (same y) (ys ++ x ∷ []))) (no_two same (ys ++ x ∷ []))
-    (not_from_false (list_any (same y) (ys ++ x ∷ [])) (any_behind (same y) ys x ∙ or_from (list_any (same y) ys) (same y x) none others.0))
-    (no_two_more same ys x others.1 (and_true (not (list_any (same y) ys)) (no_two same ys) d).1)
+no_two_more same (y ∷ ys) x others d = grind (arith, any_behind (same y) ys x, no_two_more same ys x, others, d)
 
 -- ---- names as they are written
 
 pub same_words-is : (xs ys : List (List ℕ)) → same_words xs ys ≡ true → xs ≡ ys
-same_words-is [] [] e = refl
-same_words-is [] (y ∷ ys) e = absurd cc
-same_words-is (x ∷ xs) [] e = absurd cc
-same_words-is (x ∷ xs) (y ∷ ys) e =
-    ap₂ (λ (w : List ℕ) (ws : List (List ℕ)). w ∷ ws) ((bytes_eq-Decides x y).0 (and_true (bytes_eq x y) (same_words xs ys) e).0) (same_words-is xs ys (and_true (bytes_eq x y) (same_words xs ys) e).1)
+same_words-is [] ys e = grind (arith, e)
+same_words-is (x ∷ xs) ys e = grind (arith, bytes_eq-Decides x, same_words-is xs, e)
 
 abbrev pub written_words : List (List ℕ) → List ℕ
 written_words [] = []
@@ -63,9 +56,7 @@ module _ {A : Type 0} (named : A → Name) where
   others : (n : Name) (all : List A) → list_any (bytes_eq (written n)) (map (λ x. written (named x)) all) ≡ false
       → AllByRecursion (λ ws. same_words ws (words_of n) ≡ false) (map (λ x. words_of (named x)) all)
   others n [] e = tt
-  others n (x ∷ all) e =
-      let both = or_parts (bytes_eq (written n) (written (named x))) (list_any (bytes_eq (written n)) (map (λ y. written (named y)) all)) e in
-      (other_words (named x) n both.0, others n all both.1)
+  others n (x ∷ all) e = grind (arith, other_words (named x) n, others n all, e)
 
   once_more : (before after : BTreeSet (String Global)) (all : List A) (x : A) → Once before all → AddsName before (named x) after → Once after (all ++ x ∷ [])
   once_more before after all x s a = record {
@@ -80,42 +71,24 @@ module _ {A : Type 0} (named : A → Name) where
 -- ---- values of attributes
 
 pub some_is : {A : Type 0} (o : Option A) → is_some o ≡ true → (x : A) × (o ≡ Some x)
-some_is (Some x) e = (x, refl)
-some_is None e = absurd cc
+some_is o e = grind (arith, e)
 
 -- where a test passes of what is there, something is there that passes it
 pub passes_of : {A : Type 0} (P : A → Bool) (o : Option A) (x : A) → option_map_or P o false ≡ true → o ≡ Some x → P x ≡ true
-passes_of P None x e f = absurd cc
-passes_of P (Some y) x e f = let same : y ≡ x = cc in ap P (sym same) ∙ e
+passes_of P o x e f = grind (arith, e, f)
 
 pub there_of : {A : Type 0} (P : A → Bool) (o : Option A) → option_map_or P o false ≡ true → is_some o ≡ true
-there_of P None e = absurd cc
-there_of P (Some x) e = refl
+there_of P o e = grind (arith, e)
 
 -- ---- one word
 
-alone_is : (first : List ℕ) (rest : List (List ℕ)) (w : List ℕ) → is_word w (record { first = first; rest = rest }) ≡ true → alone first rest ≡ Some w
-alone_is first [] w e = ap (λ (x : List ℕ). Some x) ((bytes_eq-Decides first w).0 (and_true (bytes_eq first w) true e).0)
-alone_is first (x ∷ rest) w e = absurd (let f : false ≡ true = (and_true (bytes_eq first w) false e).1 in cc)
-
 word_is : (w : List ℕ) (n : Name) → is_word w n ≡ true → one_word n ≡ Some w
-word_is w n e = alone_is n.first n.rest w e
+word_is w n e = grind (arith, bytes_eq-Decides n.first w, e)
 
 -- the value of an attribute of this name is what the name asks for
 pub value_fits : (asked : Asked) (w : List ℕ) (attrs : List Attribute) (v : Value) → list_all (is_fit asked) attrs ≡ true → attr w attrs ≡ Some v → fits asked w v ≡ true
 value_fits asked w [] v h e = absurd cc
-value_fits asked w (a ∷ attrs) v h e =
-    elim (cases_Bool (is_word w a.name)) [
-      | inl t ↦
-          let found : Some a.value ≡ Some v = sym (rw t refl) ∙ e in
-          let same : a.value ≡ v = cc in
-          let fit : is_fit asked a ≡ true = (and_true (is_fit asked a) (list_all (is_fit asked) attrs) h).0 in
-          let by_word : fits_word asked (Some w) a.value ≡ true = ap (λ (o : Option (List ℕ)). fits_word asked o a.value) (sym (word_is w a.name t)) ∙ fit in
-          subst (λ (x : Value). fits asked w x ≡ true) same by_word
-      | inr f ↦
-          let later : attr w attrs ≡ Some v = sym (rw f refl) ∙ e in
-          value_fits asked w attrs v (and_true (is_fit asked a) (list_all (is_fit asked) attrs) h).1 later
-    ]
+value_fits asked w (a ∷ attrs) v h e = grind (arith, word_is w a.name, value_fits asked w attrs v, h, e)
 
 -- ---- what is needed, has a default, or may be left out
 
@@ -162,15 +135,7 @@ MayBeFlawless known rule (Some s) = IsFlawless known rule s
 found : (known : Known) (kind : BlockKind) (n : List (List ℕ)) (rule : ScopeRule) (scopes : List Scope) → AllByRecursion (IsFlawlessScope known kind) scopes → rule_in (scopes_of kind) n ≡ Some rule
     → MayBeFlawless known rule (scope n scopes)
 found known kind n rule [] all asks = tt
-found known kind n rule (s ∷ scopes) all asks =
-    elim (cases_Bool (same_words (words_of s.name) n)) [
-      | inl t ↦
-          let same : rule_in (scopes_of kind) (words_of s.name) ≡ Some rule = ap (rule_in (scopes_of kind)) (same_words-is (words_of s.name) n t) ∙ asks in
-          let flawless = subst (λ (r : ScopeRule). IsFlawless known r s.structure) (some_same all.0.rule rule (rule_in (scopes_of kind) (words_of s.name)) all.0.asks same) all.0.flawless in
-          let here : scope n (s ∷ scopes) ≡ Some s.structure = rw t refl in
-          subst (MayBeFlawless known rule) (sym here) flawless
-      | inr f ↦ (let later : scope n (s ∷ scopes) ≡ scope n scopes = rw f refl in subst (MayBeFlawless known rule) (sym later) (found known kind n rule scopes all.1 asks))
-    ]
+found known kind n rule (s ∷ scopes) all asks = grind (arith, same_words-is (words_of s.name) n, found known kind n rule scopes, all, asks)
 
 nothing : StructType
 nothing = record { members = []; min_align = 1; positive = ltb-true 0 1 refl; power_of_two = eqb-true 0 0 refl }

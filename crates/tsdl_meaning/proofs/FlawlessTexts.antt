@@ -1,7 +1,8 @@
 -- Blocks without a flaw, one behind the other, and the metadata that they mean.
-use Rattle.std.proofs.Common.{◌≡◌, ℕ, ◌==◌, Bool, true, false, not, cond, ◌&&◌, ◌||◌, List, ◌∷◌, ◌++◌, Contains, Option, Some, None, refl, sym, ap, ap₂, subst, ◌∙◌, inl, inr, arith, []}
+use Rattle.std.proofs.Common.{◌≡◌, ℕ, ◌==◌, Bool, true, false, cond, ◌&&◌, ◌||◌, List, ◌∷◌, ◌++◌, Contains, Option, Some, None, refl, sym, ap, subst, ◌∙◌, inl, inr, arith, []}
+use Rattle.std.proofs.lemmas.Bool.Decides.{nat_tests}
 use Rattle.std.proofs.lemmas.List.Elements.{Contains-append_right}
-use Rattle.tsdl_meaning.proofs.TextWords.{AddsBlock, AddsClock, AddsStream, AllByRecursion, BTreeMap, BTreeSet, Block, ClockType, ContainsKey, EnvironmentEntry, Event, Global, HaveStreams, IsEmpty, IsFlawlessBehind, Item, Known, LacksSizes, Ledger, MeanEntries, NamedFact, SaysMetadata, Stream, String, Surveys, and_from, and_true, append-nil, at_most_one, bytes_eq, bytes_eq-Decides, cases_Bool, clock_meaning, contains, contains_text, each, environment_in, environment_meaning, eqb-true, event_in, event_meaning, events_of, flat_map, has_sizes, have_streams, header_meaning, list_all, list_any, nat_cmp, no_two, not-true, not_from_false, only, or_left, or_parts, or_right, pair_cmp, stream_in, stream_meaning, streams_meaning, text_meta, trace_in, with_events, ◌>>=◌, false_from_ne_true, eq-eqb}
+use Rattle.tsdl_meaning.proofs.TextWords.{AddsBlock, AddsClock, AddsStream, AllByRecursion, BTreeMap, BTreeSet, Block, ClockType, ContainsKey, EnvironmentEntry, Event, Global, HaveStreams, IsEmpty, IsFlawlessBehind, Item, Known, LacksSizes, Ledger, MeanEntries, NamedFact, SaysMetadata, Stream, String, Surveys, and_from, and_true, append-nil, at_most_one, bytes_eq, bytes_eq-Decides, cases_Bool, clock_meaning, contains, contains_text, each, environment_in, environment_meaning, eqb-true, event_in, event_meaning, events_of, flat_map, has_sizes, have_streams, header_meaning, list_all, list_any, nat_cmp, no_two, only, or_left, or_right, pair_cmp, stream_in, stream_meaning, streams_meaning, text_meta, trace_in, with_events, ◌>>=◌, false_from_ne_true, eq-eqb}
 use Rattle.std.proofs.lemmas.List.Folds.{list_all-append, list_any-append}
 use Rattle.ctf_types.specs.declared.Metadata.{Metadata}
 use Rattle.tsdl_grammar.specs.declared.tree.Block.TheVariants as blocks
@@ -42,16 +43,12 @@ Clocks names all = Collected clock_meaning same_name (λ c. contains_text names 
 other_than : {A : Type 0} (there : A → Bool) (same : A → A → Bool) → ((x y : A) → same x y ≡ true → x ≡ y) → (x y : A) → there x ≡ true → there y ≡ false → same x y ≡ false
 other_than there same is x y old fresh = false_from_ne_true (same x y) (λ e. let alike : there x ≡ there y = ap there (is x y e) in cc)
 
-still : (b c : Bool) → c ≡ true → cond b true c ≡ true
-still true c e = refl
-still false c e = e
-
 clock_more : (ledger after : Ledger) (all : List (List Item)) (is : List Item) → ClockOf ledger is → Clocks ledger.clocks all → (adds : AddsClock ledger is after) → Clocks adds.clocks (all ++ is ∷ [])
 clock_more ledger after all is c s adds =
     let added = adds.added c.clock.name c.named in
     collected_more clock_meaning same_name (λ x. contains_text ledger.clocks x.name ≡ true) (λ x. contains_text adds.clocks x.name ≡ true) all is c.clock s c.means
     (λ x there. other_than (contains_text ledger.clocks) bytes_eq (λ v w. (bytes_eq-Decides v w).0) x.name c.clock.name there c.anew)
-    (λ x there. added x.name ∙ still (bytes_eq c.clock.name x.name) (contains_text ledger.clocks x.name) there)
+    (λ x there. grind (arith, added x.name, there))
     (added c.clock.name ∙ ap (λ (b : Bool). cond b true (contains_text ledger.clocks c.clock.name)) ((bytes_eq-Decides c.clock.name c.clock.name).1 refl))
 
 -- ---- streams
@@ -96,11 +93,7 @@ abbrev pub Events : Known → BTreeMap (ℕ × ℕ) (String Global) → List (Li
 Events known keys all = Collected (event_meaning known) same_key (λ e. ContainsKey pair_cmp keys (e.0, e.1.id)) all
 
 other_key : (keys : BTreeMap (ℕ × ℕ) (String Global)) (e f : ℕ × Event) → ContainsKey pair_cmp keys (e.0, e.1.id) → (ContainsKey pair_cmp keys (f.0, f.1.id) → ⊥) → same_key e f ≡ false
-other_key keys e f there fresh =
-    false_from_ne_true (same_key e f)
-    (λ h.
-    let both = and_true (e.0 == f.0) (e.1.id == f.1.id) h in
-    fresh (subst (λ (k : ℕ × ℕ). ContainsKey pair_cmp keys k) (ap₂ (λ (m n : ℕ). (m, n)) (eqb-true e.0 f.0 both.0) (eqb-true e.1.id f.1.id both.1)) there))
+other_key keys e f there fresh = grind (arith, nat_tests, there, fresh)
 
 event_more : (known : Known) (ledger after : Ledger) (all : List (List Item)) (is : List Item) → EventOf known ledger is → Events known ledger.events all → (adds : AddsEvent ledger is after)
     → Events known adds.events (all ++ is ∷ [])
@@ -178,28 +171,11 @@ no_blocks known ledger e = record {
 
 none_of : (id : ℕ) (e : ℕ × Event) (es : List (ℕ × Event)) → e.0 ≡ id → list_any (same_key e) es ≡ false → list_any (λ x. e.1.id == x.id) (events_of id es) ≡ false
 none_of id e [] is none = refl
-none_of id e (f ∷ es) is none =
-    let rest = none_of id e es is (or_parts (same_key e f) (list_any (same_key e) es) none).1 in
-    elim (cases_Bool (f.0 == id)) [
-      | inl t ↦
-          let same : (e.0 == f.0) ≡ true = ap (λ (n : ℕ). n == f.0) (is ∙ sym (eqb-true f.0 id t)) ∙ eq-eqb f.0 f.0 refl in
-          let other : (e.1.id == f.1.id) ≡ false = sym (ap (λ (b : Bool). b && (e.1.id == f.1.id)) same) ∙ (or_parts (same_key e f) (list_any (same_key e) es) none).0 in
-          rw (t, other) rest
-      | inr t ↦ rw t rest
-    ]
+none_of id e (f ∷ es) is none = grind (arith, nat_tests, none_of id e es is, is, none)
 
 own_once : (id : ℕ) (es : List (ℕ × Event)) → no_two same_key es ≡ true → no_two (λ x y. x.id == y.id) (events_of id es) ≡ true
 own_once id [] d = refl
-own_once id (e ∷ es) d =
-    let both = and_true (not (list_any (same_key e) es)) (no_two same_key es) d in
-    let none = not-true (list_any (same_key e) es) both.0 in
-    let rest = own_once id es both.1 in
-    elim (cases_Bool (e.0 == id)) [
-      | inl t ↦ rw t
-          (and_from (not (list_any (λ x. e.1.id == x.id) (events_of id es))) (no_two (λ x y. x.id == y.id) (events_of id es))
-          (not_from_false (list_any (λ x. e.1.id == x.id) (events_of id es)) (none_of id e es (eqb-true e.0 id t) none)) rest)
-      | inr t ↦ rw t rest
-    ]
+own_once id (e ∷ es) d = grind (arith, nat_tests, none_of id e es, own_once id es, d)
 
 each_is : {A B : Type 0} (f : A → Option B) (xs : List A) → ((x : A) → (y : B) × (f x ≡ Some y)) → (ys : List B) × (each f xs ≡ Some ys)
 each_is f [] g = ([], refl)

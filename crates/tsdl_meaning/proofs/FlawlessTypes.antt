@@ -1,8 +1,7 @@
 -- What the kinds, the brackets and the members of a structure mean in which no flaw is found.
-use Rattle.std.proofs.Common.{◌≡◌, ℕ, ◌+◌, ◌<◌, ◌%◌, ◌==◌, Bool, true, false, ◌&&◌, List, ◌∷◌, ◌++◌, length, Option, Some, None, IsSome, Bor, ℤ, pos, negsuc, refl, sym, ap, ap₂, subst, ◌∙◌, arith, length-append, ◌*◌, ◌≤◌, ◌⊎◌, ◌^◌, max, inl, inr, not, []}
-use Rattle.tsdl_meaning.proofs.TextWords.{Adds, AddsAttribute, AreBrackets, AreRanges, Asked, Attribute, BTreeSet, Bracket, ByteOrder, Entries, Entry, Global, HaveNumbers, KeepsLimits, Known, Leaf, MemberTree, MemberType, NameLength, Number, ScopeRule, String, StructType, Structure, Value, align_of, align_with, and_from, and_true, are_distinct, are_lengths, attr, attr_names, base_value, bind_is, bind_some, bracketed, bytes_eq, clock_value, codes, cond_both, count_of, default_align, each, elements_of, encoding_value, entries_of, entry_meaning, enum_meaning, eqb-true, flag_value, has_member, has_only, high_of, int_attrs, int_le, int_meaning, is_alignment, is_among, is_size, is_some, kind_meaning, le-leb, leb-true, length_place, list_all, list_any, ltb-true, member_meaning, members_meaning, nat_le, nat_lt, natural, natural_value, of_integer, of_string, option_map, option_map_or, order_value, order_words, own_asked, own_attrs, provided, provided_some, signed_of, some_same, string_attrs, struct_meaning, struct_type, suits_rule, text_meaning, tree_of, with_default, word_value, words_of, ◌>>=◌, or-false}
+use Rattle.std.proofs.Common.{◌≡◌, ℕ, ◌<◌, ◌%◌, ◌==◌, Bool, true, false, ◌&&◌, List, ◌∷◌, ◌++◌, length, Option, Some, None, IsSome, Bor, ℤ, refl, sym, ap, subst, ◌∙◌, arith, length-append, ◌*◌, ◌≤◌, max, inl, inr, []}
+use Rattle.tsdl_meaning.proofs.TextWords.{Adds, AddsAttribute, AreBrackets, AreRanges, Asked, Attribute, BTreeSet, Bracket, ByteOrder, Entries, Entry, Global, HaveNumbers, KeepsLimits, Known, Leaf, MemberTree, MemberType, NameLength, Number, ScopeRule, String, StructType, Structure, Value, align_of, align_with, and_from, and_true, are_distinct, are_lengths, attr, attr_names, base_value, bind_is, bracketed, bytes_eq, clock_value, codes, count_of, default_align, elements_of, encoding_value, entries_of, entry_meaning, enum_meaning, eqb-true, flag_value, has_member, has_only, high_of, int_attrs, int_le, int_meaning, is_alignment, is_among, is_size, is_some, kind_meaning, leb-true, length_place, list_all, list_any, ltb-true, member_meaning, members_meaning, nat_le, nat_lt, natural, natural_value, of_integer, of_string, option_map, option_map_or, order_value, own_asked, own_attrs, signed_of, string_attrs, struct_meaning, struct_type, suits_rule, text_meaning, tree_of, with_default, word_value, words_of}
 use Rattle.std.proofs.lemmas.Bool.Decides.{nat_tests}
-use Rattle.ctf_types.specs.declared.ByteOrder.TheVariants.{Little, Big}
 use Rattle.ctf_types.specs.declared.Base.TheVariants.{Dec}
 use Rattle.ctf_types.specs.declared.IntType.{IntType}
 use Rattle.tsdl_grammar.specs.declared.tree.Kind.TheVariants as kinds
@@ -12,7 +11,6 @@ use Rattle.tsdl_grammar.proofs.TypeParts.{int_type-own, struct_type-own}
 use Rattle.tsdl_meaning.proofs.FlawlessItems.{Attributes, attribute_more, all_one_more, passes_of, some_is, there_of, value_fits, default_is, option_is}
 use Rattle.tsdl_meaning.proofs.FlawlessFacts.{each_more}
 use Rattle.tsdl_meaning.proofs.ElementCounts.{elements_behind}
-use Rattle.tsdl_flaw.specs.Limits as limits
 use Rattle.tsdl_flaw.specs.Limits.{depth, elements}
 use Rattle.tsdl_grammar.specs.declared.tree.Bracket.TheVariants as brackets
 use Rattle.tsdl_meaning.specs.declared.judge.brackets.Lengths.{Lengths}
@@ -34,19 +32,9 @@ only_these allowed asked all names s = and_from (are_distinct (attr_names all)) 
 
 -- ---- values
 
--- a word that is `native` is a byte order, whatever the trace's is
-native_word : (order : ByteOrder) (w : List ℕ) → list_any (bytes_eq w) (codes "native" ∷ []) ≡ true → list_any (bytes_eq w) (order_words order) ≡ true
-native_word Little w e = rw (sym (or-false (bytes_eq w (codes "native"))) ∙ e) refl
-native_word Big w e = rw (sym (or-false (bytes_eq w (codes "native"))) ∙ e) refl
-
-word_held : (order : ByteOrder) (o : Option (List ℕ)) → option_map_or (λ w. list_any (bytes_eq w) (codes "native" ∷ [])) o false ≡ true
-    → is_some (o >>= λ w. provided (list_any (bytes_eq w) (order_words order)) (Some order)) ≡ true
-word_held order None e = absurd cc
-word_held order (Some w) e = ap (λ (b : Bool). is_some (provided b (Some order))) (native_word order w e)
-
 pub native_is : (order : ByteOrder) (v : Value) → option_map_or (λ w. list_any (bytes_eq w) (codes "native" ∷ [])) (word_value v) false ≡ true → is_some (order_value order v) ≡ true
 unfolding order_value
-native_is order v e = word_held order (word_value v) e
+native_is order v e = grind (arith, e)
 
 -- ---- integers
 
@@ -55,8 +43,7 @@ abbrev is_power : ℕ → Bool
 is_power n = nat_lt 0 n && (4096 % n == 0)
 
 align_range : (size align : ℕ) (o : Option Value) → ((v : Value) → o ≡ Some v → is_alignment v ≡ true) → with_default (default_align size) natural_value o ≡ Some align → is_power align ≡ true
-align_range size align None asks e =
-    ap is_power (sym (some_same (default_align size) align (Some (default_align size)) refl e)) ∙ cond_both (size % 8 == 0) 8 1 (λ n. is_power n ≡ true) (λ _. refl) (λ _. refl)
+align_range size align None asks e = grind (arith, e)
 align_range size align (Some v) asks e = passes_of is_power (natural_value v) align (asks v refl) e
 
 integer_means : (known : Known) (attrs : List Attribute) (names : BTreeSet (String Global)) → Own int_attrs (of_integer known) attrs names → is_some (attr (codes "size") attrs) ≡ true
@@ -98,13 +85,9 @@ ranges_mean known attrs es int ranges =
     let few : nat_le (length (entries_of es)) 65536 ≡ true = grind (arith, nat_tests) in
     rw (t.1, few, ranges.mean) refl
 
-some_before : {A B : Type 0} (f : A → B) (o : Option A) → IsSome (option_map f o) → IsSome o
-some_before f (Some x) h = refl
-some_before f None h = absurd cc
-
 pub int_means : (known : Known) (attrs : List Attribute) → IsSome (kind_meaning known (kinds.Integer attrs)) → IsSome (int_meaning known attrs)
 unfolding kind_meaning
-int_means known attrs h = some_before _ (int_meaning known attrs) h
+int_means known attrs h = grind (arith, h)
 
 -- ---- strings
 
@@ -129,8 +112,7 @@ type_means known types.Text attrs names s there = string_means attrs names s
 -- ---- ranges
 
 own_range : (low : ℤ) → int_le low low ≡ true
-own_range (pos n) = le-leb n n (omega arith)
-own_range (negsuc n) = le-leb n n (omega arith)
+own_range low = grind (arith, nat_tests)
 
 pub range_means : (e : Entry) → int_le (signed_of e.low) (high_of (signed_of e.low) e.high) ≡ true → IsSome (entry_meaning e)
 unfolding entry_meaning
@@ -163,9 +145,7 @@ seen (Some v) p e h = ap is_some (sym e)
 -- ---- brackets
 
 all_bits : (ns : List ℕ) (n : ℕ) → list_all (nat_lt 0) ns ≡ true → 0 < n → list_all (nat_lt 0) (ns ++ n ∷ []) ≡ true
-all_bits ns n all some =
-    let one : nat_lt 0 n ≡ true = grind (arith, nat_tests) in
-    all_one_more (nat_lt 0) ns n all one
+all_bits ns n all some = grind (arith, nat_tests, all_one_more (nat_lt 0) ns n all, some)
 
 -- one more number
 pub count_more : (before : List (List ℕ × MemberType)) (done : List Bracket) (old new : Lengths) (number : Number) (n : ℕ) → AreBrackets before done old → natural number ≡ Some n → KeepsLimits old n new
@@ -180,67 +160,51 @@ count_more before done old new number n s e keeps adds =
       made = made;
       few = omega (arith, l, c, f);
       small = subst (λ (k : ℕ). k ≤ 1048576) made small;
-      shape = by s.shape;
+      shape = elim s.shape [
+        | inl plain ↦ inl (adds.sequence ∙ plain.0, each_more count_of done s.numbers (brackets.Count number) n plain.1 e)
+        | inr named ↦ inr (
+          adds.sequence ∙ named.0,
+          record {
+            name = named.1.name;
+            rest = named.1.rest ++ brackets.Count number ∷ [];
+            begins = ap (λ (l : List Bracket). l ++ brackets.Count number ∷ []) named.1.begins;
+            numbered = each_more count_of named.1.rest s.numbers (brackets.Count number) n named.1.numbered e;
+            place = named.1.place;
+            bits = all_bits s.numbers n named.1.bits (keeps.bits named.0);
+          },
+        )
+      ];
     }
-  where
-    by : ((old.is_sequence ≡ false) × HaveNumbers done s.numbers) ⊎ ((old.is_sequence ≡ true) × NameLength before done s.numbers)
-        → ((new.is_sequence ≡ false) × HaveNumbers (done ++ brackets.Count number ∷ []) (s.numbers ++ n ∷ [])) ⊎ ((new.is_sequence ≡ true) × NameLength before (done ++ brackets.Count number ∷ []) (s.numbers ++ n ∷ []))
-    by (inl plain) = inl (adds.sequence ∙ plain.0, each_more count_of done s.numbers (brackets.Count number) n plain.1 e)
-    by (inr named) = inr (
-      adds.sequence ∙ named.0,
-      record {
-        name = named.1.name;
-        rest = named.1.rest ++ brackets.Count number ∷ [];
-        begins = ap (λ (l : List Bracket). l ++ brackets.Count number ∷ []) named.1.begins;
-        numbered = each_more count_of named.1.rest s.numbers (brackets.Count number) n named.1.numbered e;
-        place = named.1.place;
-        bits = all_bits s.numbers n named.1.bits (keeps.bits named.0);
-      },
-    )
+
+no_numbers : (ns : List ℕ) → length ns ≡ 0 → ns ≡ []
+no_numbers [] e = refl
+no_numbers (n ∷ ns) e = absurd (omega (arith, e))
 
 none_there : (done : List Bracket) (numbers : List ℕ) → HaveNumbers done numbers → length numbers ≡ 0 → done ≡ []
 none_there [] numbers e z = refl
-none_there (b ∷ done) numbers e z =
-    let a = bind_some (count_of b) (λ y. each count_of done >>= λ ys. Some (y ∷ ys)) numbers e in
-    let r = bind_some (each count_of done) (λ ys. Some (a.0 ∷ ys)) numbers a.2 in
-    let same : a.0 ∷ r.0 ≡ numbers = cc in
-    absurd (let l = ap length same in omega (arith, l, z))
+none_there (b ∷ done) numbers e z = absurd (grind (arith, e, z))
 
 -- the name of a length, which is the first
 pub name_more : (before : List (List ℕ × MemberType)) (done : List Bracket) (old : Lengths) (name : List ℕ) → AreBrackets before done old → old.is_sequence ≡ false → old.count ≡ 0
     → IsSome (length_place before name) → AreBrackets before (done ++ brackets.Member name ∷ []) (record old { is_sequence = true })
-name_more before done old name s plain none place = by s.shape
-  where
-    by : ((old.is_sequence ≡ false) × HaveNumbers done s.numbers) ⊎ ((old.is_sequence ≡ true) × NameLength before done s.numbers)
-        → AreBrackets before (done ++ brackets.Member name ∷ []) (record old { is_sequence = true })
-    by (inr named) = absurd (let never : false ≡ true = sym plain ∙ named.0 in cc)
-    by (inl numbered) =
-        let empty = none_there done s.numbers numbered.1 (sym s.counted ∙ none) in
-        let first = ap (λ (l : List Bracket). l ++ brackets.Member name ∷ []) empty in
-        record {
-          numbers = [];
-          counted = none;
-          made = s.made ∙ ap elements_of (empty_numbers s.numbers (sym s.counted ∙ none));
-          few = omega arith;
-          small = omega arith;
-          shape = inr (refl, record { name = name; rest = []; begins = first; numbered = refl; place = place; bits = refl });
-        }
-      where
-        empty_numbers : (ns : List ℕ) → length ns ≡ 0 → ns ≡ []
-        empty_numbers [] e = refl
-        empty_numbers (n ∷ ns) e = absurd (omega (arith, e))
+name_more before done old name s plain none place = elim s.shape [
+  | inr named ↦ absurd (let never : false ≡ true = sym plain ∙ named.0 in cc)
+  | inl numbered ↦
+      let empty = none_there done s.numbers numbered.1 (sym s.counted ∙ none) in
+      record {
+        numbers = [];
+        counted = none;
+        made = s.made ∙ ap elements_of (no_numbers s.numbers (sym s.counted ∙ none));
+        few = omega arith;
+        small = omega arith;
+        shape = inr (refl, record { name = name; rest = []; begins = ap (λ (l : List Bracket). l ++ brackets.Member name ∷ []) empty; numbered = refl; place = place; bits = refl });
+      }
+]
 
 -- brackets with these numbers have as many lengths, and as many elements
 numbered_are : (done : List Bracket) (ns : List ℕ) → HaveNumbers done ns → (depth done ≡ length ns) × (elements done ≡ elements_of ns)
-numbered_are [] ns e = subst (λ (l : List ℕ). (0 ≡ length l) × (1 ≡ elements_of l)) (some_same [] ns (Some []) refl e) (refl, refl)
-numbered_are (brackets.Member w ∷ done) ns e = absurd cc
-numbered_are (brackets.Count n ∷ done) ns e =
-    let a = bind_some (natural n) (λ y. each count_of done >>= λ ys. Some (y ∷ ys)) ns e in
-    let r = bind_some (each count_of done) (λ ys. Some (a.0 ∷ ys)) ns a.2 in
-    let rest = numbered_are done r.0 r.1 in
-    let turned : max a.0 1 ≡ max 1 a.0 = omega arith in
-    subst (λ (l : List ℕ). (1 + depth done ≡ length l) × (elements (brackets.Count n ∷ done) ≡ elements_of l)) (some_same (a.0 ∷ r.0) ns (Some (a.0 ∷ r.0)) refl r.2)
-    (omega (arith, rest.0), ap₂ (λ (o : Option ℕ) (k : ℕ). limits.elements_of o * k) a.1 rest.1 ∙ ap (λ (k : ℕ). k * elements_of r.0) turned)
+numbered_are [] ns e = grind (arith, e)
+numbered_are (b ∷ done) ns e = grind (arith, numbered_are done, e)
 
 pub lengths_of : (before : List (List ℕ × MemberType)) (done : List Bracket) (l : Lengths) → AreBrackets before done l → (depth done ≡ l.count) × (elements done ≡ l.elements)
 lengths_of before done l s =
@@ -254,16 +218,11 @@ lengths_of before done l s =
 -- ---- the type
 
 lengths_are : (ns : List ℕ) → length ns ≤ 8 → elements_of ns ≤ 1048576 → are_lengths ns ≡ true
-lengths_are ns few small =
-    let a : nat_le (length ns) 8 ≡ true = grind (arith, nat_tests) in
-    let b : nat_le (elements_of ns) (2 ^ 20) ≡ true = grind (arith, nat_tests) in
-    and_from (nat_le (length ns) 8) (nat_le (elements_of ns) (2 ^ 20)) a b
+lengths_are ns few small = grind (arith, nat_tests, few, small)
 
 arrays_mean : (before : List (List ℕ × MemberType)) (leaf : Leaf) (bs : List Bracket) (numbers : List ℕ) → HaveNumbers bs numbers → are_lengths numbers ≡ true → IsSome (bracketed before leaf bs)
 unfolding bracketed
-arrays_mean before leaf [] numbers e limits = refl
-arrays_mean before leaf (brackets.Count n ∷ rest) numbers e limits = rw (e, limits) refl
-arrays_mean before leaf (brackets.Member w ∷ rest) numbers e limits = absurd cc
+arrays_mean before leaf bs numbers e limits = grind (arith, e, limits)
 
 sequence_means : (before : List (List ℕ × MemberType)) (leaf : Leaf) (bs : List Bracket) (numbers : List ℕ) → NameLength before bs numbers → are_lengths numbers ≡ true → IsSome (bracketed before leaf bs)
 unfolding bracketed
@@ -299,12 +258,9 @@ more_mean : (known : Known) (before : List (List ℕ × MemberType)) (trees : Li
     → members_meaning known before trees ≡ Some members → has_member tree.name members ≡ false → member_meaning known members tree ≡ Some t
     → members_meaning known before (trees ++ tree ∷ []) ≡ Some (members ++ (tree.name, t) ∷ [])
 unfolding members_meaning
-more_mean known before [] members tree t e fresh meant =
-    let made : members_meaning known members (tree ∷ []) ≡ Some (members ++ (tree.name, t) ∷ []) = rw (fresh, meant) refl in
-    subst (λ (ms : List (List ℕ × MemberType)). members_meaning known ms (tree ∷ []) ≡ Some (members ++ (tree.name, t) ∷ [])) (some_same members before (Some before) e refl) made
+more_mean known before [] members tree t e fresh meant = grind (arith, e, fresh, meant)
 more_mean known before (x ∷ trees) members tree t e fresh meant =
-    let a = bind_some (provided (not (has_member x.name before)) (member_meaning known before x)) (λ u. members_meaning known (before ++ (x.name, u) ∷ []) trees) members e in
-    rw a.1 (more_mean known (before ++ (x.name, a.0) ∷ []) trees members tree t a.2 fresh meant)
+    grind (arith, λ (u : MemberType). more_mean known (before ++ (x.name, u) ∷ []) trees members tree t, e, fresh, meant)
 
 pub one_more : (known : Known) (rule : ScopeRule) (trees : List MemberTree) (before after : List (List ℕ × MemberType)) (tree : MemberTree) → AreFlawless known rule trees before
     → AddsMember known rule before tree after → AreFlawless known rule (trees ++ tree ∷ []) after
@@ -325,18 +281,9 @@ pub none_flawless : (known : Known) (rule : ScopeRule) (members : List (List ℕ
 unfolding members_meaning
 none_flawless known rule members e = subst (AreFlawless known rule []) (sym e) (record { few = omega arith; counted = refl; mean = refl; suit = refl })
 
--- the alignment of a structure is in range
-in_range : (o : Option Number) (a : ℕ) → align_of o ≡ Some a → is_power a ≡ true
-in_range None a e = ap is_power (sym (some_same 1 a (Some 1) refl e))
-in_range (Some number) a e =
-    let b = bind_some (natural number) (λ n. provided (is_power n) (Some n)) a e in
-    let c = provided_some (is_power b.0) (Some b.0) a b.2 in
-    ap is_power (sym (some_same b.0 a (Some b.0) refl c.1)) ∙ c.0
-
--- and so is the one that it has with its members
-in_range_with : (members : List (List ℕ × MemberType)) (a : ℕ) → is_power a ≡ true → is_power (align_with members a) ≡ true
-in_range_with [] a h = refl
-in_range_with (m ∷ ms) a h = h
+-- the alignment that a structure has with its members is in range
+in_range : (members : List (List ℕ × MemberType)) (o : Option Number) (a : ℕ) → align_of o ≡ Some a → is_power (align_with members a) ≡ true
+in_range members o a e = grind (arith, e)
 
 -- all the members and the alignment
 pub all_flawless : (known : Known) (rule : ScopeRule) (s : Structure) (members : List (List ℕ × MemberType)) → AreFlawless known rule s.members members → IsSome (align_of s.align)
@@ -345,7 +292,7 @@ unfolding struct_meaning
 all_flawless known rule s members f is =
     let align = some_is (align_of s.align) is in
     let a = align_with members align.0 in
-    let r = and_true (nat_lt 0 a) (4096 % a == 0) (in_range_with members align.0 (in_range s.align align.0 align.1)) in
+    let r = and_true (nat_lt 0 a) (4096 % a == 0) (in_range members s.align align.0 align.1) in
     let meant : StructType = record { members = members; min_align = a; positive = ltb-true 0 a r.0; power_of_two = eqb-true (4096 % a) 0 r.1 } in
     let m = f.few in let n = f.counted in
     let few : nat_le (length s.members) 1024 ≡ true = grind (arith, nat_tests) in

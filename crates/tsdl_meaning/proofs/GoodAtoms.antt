@@ -1,6 +1,6 @@
 -- What the tokens of a text mean: each word is a name that metadata may have, and each number has 64 bits.
-use Rattle.std.proofs.Common.{◌≡◌, ℕ, suc, ◌+◌, ◌<◌, ◌^◌, Bool, true, false, cond, not, ◌&&◌, ◌||◌, ltb, List, ◌∷◌, ◌++◌, take, drop, Option, Some, None, refl, sym, ap, subst, ◌∙◌, arith, []}
-use Rattle.tsdl_meaning.proofs.TextWords.{AllByRecursion, Atom, IsMetadataName, and_true, bytes_eq, is_digit, is_identifier, is_letter, is_read, is_utf8, list_all, list_any, ltb-true, not-true, option_and_then, option_map, prefix_len, unused_keywords, ◌==◌, cond_both}
+use Rattle.std.proofs.Common.{◌≡◌, ℕ, suc, ◌+◌, ◌<◌, ◌^◌, Bool, true, ◌||◌, List, ◌∷◌, ◌++◌, take, drop, Option, Some, None, refl, sym, ap, subst, ◌∙◌, arith, []}
+use Rattle.tsdl_meaning.proofs.TextWords.{AllByRecursion, Atom, IsMetadataName, and_true, is_digit, is_identifier, is_letter, is_read, list_all, option_map, prefix_len, ◌==◌, cond_both}
 use Rattle.std.specs.Char.{is_ascii_digit}
 use Rattle.std.proofs.lemmas.Bool.Decides.{nat_tests}
 use Rattle.std.proofs.lemmas.List.Folds.{list_all-append}
@@ -11,10 +11,9 @@ use Rattle.tsdl_grammar.specs.declared.piece.Piece.{Piece}
 use Rattle.tsdl_grammar.specs.declared.piece.Piece.TheVariants as pieces
 use Rattle.tsdl_grammar.specs.declared.piece.Cut.{Cut}
 use Rattle.tsdl_grammar.specs.Bytes.{is_blank, is_name_start, is_name_byte}
-use Rattle.tsdl_grammar.specs.Pieces.{piece_at, text_at, comment_at, mark_at, mark_cut, one_byte_mark, close_len, content_len, cut}
+use Rattle.tsdl_grammar.specs.Pieces.{piece_at, text_at, comment_at, mark_at, mark_cut, one_byte_mark}
 use Rattle.tsdl_grammar.specs.Tokens.{Splits}
-use Rattle.tsdl_grammar.specs.Atoms.{content_of, number_atom, text_atom, piece_atoms, atoms_along, Reads}
-use Rattle.tsdl_grammar.specs.Escapes.{unescaped}
+use Rattle.tsdl_grammar.specs.Atoms.{piece_atoms, atoms_along, Reads}
 use Rattle.tsdl_grammar.proofs.Continuation.{spells}
 
 -- a word that metadata may have as a name, a number of 64 bits
@@ -57,9 +56,7 @@ run_passes p q h (b ∷ bytes) =
 
 named : (b : ℕ) (bytes : List ℕ) → is_name_start b ≡ true → is_identifier (take (1 + prefix_len is_name_byte bytes) (b ∷ bytes)) ≡ true
 unfolding is_identifier
-named b bytes h =
-    let s : 1 + prefix_len is_name_byte bytes ≡ suc (prefix_len is_name_byte bytes) = omega arith in
-    rw s (rw (letter_of_start b h) (run_passes is_name_byte (λ d. is_letter d || is_digit d) name_byte_of bytes))
+named b bytes h = grind (arith, letter_of_start b, run_passes is_name_byte (λ d. is_letter d || is_digit d) name_byte_of bytes, h)
 
 -- a piece that is a word is a name
 abbrev IsNamed : List ℕ → Piece → ℕ → Type 0
@@ -74,34 +71,20 @@ abbrev IsNamedAt : List ℕ → Option Cut → Type 0
 IsNamedAt bytes None = Unit {0}
 IsNamedAt bytes (Some c) = IsNamed bytes c.piece c.len
 
-mapped : {A : Type 0} (whole : List ℕ) (f : A → Cut) (o : Option A) → ((x : A) → IsNamed whole (f x).piece (f x).len) → IsNamedAt whole (option_map f o)
-mapped whole f None h = tt
-mapped whole f (Some x) h = h x
-
 comment_named : (whole bytes : List ℕ) → IsNamedAt whole (comment_at bytes)
 unfolding comment_at
-comment_named whole [] = tt
-comment_named whole (b ∷ bytes) =
-    cond_both (b == 47) _ _ (IsNamedAt whole) (λ _. tt) (λ _. cond_both (b == 42) _ None (IsNamedAt whole) (λ _. mapped whole (λ n. cut pieces.Comment (2 + n)) (close_len bytes) (λ n. tt)) (λ _. tt))
+comment_named whole bytes = grind arith
 
 text_named : (whole bytes : List ℕ) → IsNamedAt whole (text_at bytes)
 unfolding text_at
-text_named whole bytes = by (content_len false bytes)
-  where
-    by : (o : Option ℕ) → IsNamedAt whole (option_and_then (λ n. cond (is_utf8 (take n bytes)) (Some (cut (pieces.Token kinds.Text) (2 + n))) None) o)
-    by None = tt
-    by (Some n) = cond_both (is_utf8 (take n bytes)) _ None (IsNamedAt whole) (λ _. tt) (λ _. tt)
+text_named whole bytes = grind arith
 
 one_mark_named : (whole : List ℕ) (o : Option Mark) → IsNamedAt whole (option_map (λ m. mark_cut m 1) o)
-one_mark_named whole o = mapped whole (λ m. mark_cut m 1) o (λ m. tt)
+one_mark_named whole o = grind arith
 
 mark_named : (whole : List ℕ) (b : ℕ) (bytes : List ℕ) → IsNamedAt whole (mark_at b bytes)
 unfolding mark_at
-mark_named whole b [] = one_mark_named whole (one_byte_mark b)
-mark_named whole b (c ∷ []) = cond_both (b == 58 && c == 61) _ _ (IsNamedAt whole) (λ _. tt) (λ _. one_mark_named whole (one_byte_mark b))
-mark_named whole b (c ∷ d ∷ bytes) =
-    cond_both (b == 58 && c == 61) _ _ (IsNamedAt whole) (λ _. tt)
-    (λ _. cond_both (b == 46 && c == 46 && d == 46) _ _ (IsNamedAt whole) (λ _. tt) (λ _. one_mark_named whole (one_byte_mark b)))
+mark_named whole b bytes = grind (arith, one_mark_named whole (one_byte_mark b))
 
 piece_named : (bytes : List ℕ) → IsNamedAt bytes (piece_at bytes)
 unfolding piece_at
@@ -113,24 +96,12 @@ piece_named (b ∷ bytes) =
 
 -- ---- atoms
 
-good_word : (b : Bool) (bytes : List ℕ) → is_identifier bytes ≡ true → list_all is_read (cond b (atoms.Word bytes) atoms.TooLarge ∷ []) ≡ true
-    → AreGood (cond b (atoms.Word bytes) atoms.TooLarge ∷ [])
-good_word true bytes h r =
-    (record { identifier = h; no_keyword = not-true (list_any (bytes_eq bytes) unused_keywords) (and_true (not (list_any (bytes_eq bytes) unused_keywords)) true r).0 }, tt)
-good_word false bytes h r = (tt, tt)
-
-good_number : (n : ℕ) → AreGood (number_atom n ∷ [])
-good_number n = (cond_both (ltb n (2 ^ 64)) (atoms.Number n) atoms.TooLarge IsGood (λ h. ltb-true n (2 ^ 64) h) (λ _. tt), tt)
-
-good_text : (content : List ℕ) → AreGood (text_atom content ∷ [])
-good_text content = (cond_both (is_utf8 (unescaped content)) (atoms.Text (unescaped content)) atoms.TooLarge IsGood (λ _. tt) (λ _. tt), tt)
-
 good_piece : (p : Piece) (bytes : List ℕ) (len : ℕ) → IsNamed bytes p len → list_all is_read (piece_atoms p (take len bytes)) ≡ true → AreGood (piece_atoms p (take len bytes))
 good_piece pieces.Blank bytes len n r = tt
 good_piece pieces.Comment bytes len n r = tt
-good_piece (pieces.Token kinds.Identifier) bytes len n r = good_word (is_utf8 (take len bytes)) (take len bytes) n r
-good_piece (pieces.Token kinds.Number) bytes len n r = good_number _
-good_piece (pieces.Token kinds.Text) bytes len n r = good_text (content_of (take len bytes))
+good_piece (pieces.Token kinds.Identifier) bytes len n r = grind (arith, nat_tests, n, r)
+good_piece (pieces.Token kinds.Number) bytes len n r = grind (arith, nat_tests)
+good_piece (pieces.Token kinds.Text) bytes len n r = grind arith
 good_piece (pieces.Token (kinds.Mark m)) bytes len n r = (tt, tt)
 
 good_along : (bytes : List ℕ) (cuts : List Cut) → Splits bytes cuts [] → list_all is_read (atoms_along bytes cuts) ≡ true → AreGood (atoms_along bytes cuts)

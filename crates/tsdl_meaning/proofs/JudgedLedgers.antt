@@ -47,25 +47,14 @@ event_more front old new items key name known u here is k h = elim (cases_Bool (
 -- a key stays where another is inserted
 pub key_stays : (old new : BTreeMap (ℕ × ℕ) (String Global)) (key other : ℕ × ℕ) (name : Option (String Global)) → is_some name ≡ true
     → get pair_cmp new other ≡ cond (is_eq (pair_cmp key other)) name (get pair_cmp old other) → ContainsKey pair_cmp old other → ContainsKey pair_cmp new other
-key_stays old new key other name some u there =
-    elim (cases_Bool (is_eq (pair_cmp key other))) [
-      | inl e ↦ ap is_some (u ∙ ap (λ (b : Bool). cond b name (get pair_cmp old other)) e) ∙ some
-      | inr e ↦ ap is_some (u ∙ ap (λ (b : Bool). cond b name (get pair_cmp old other)) e) ∙ there
-    ]
+key_stays old new key other name some u there = grind (arith, some, u, there)
 
 -- each entry's stream is there, and so is the one of any key
 pub key_streams : (streams : BTreeSet ℕ) (entries : List ((ℕ × ℕ) × String Global)) (key : ℕ × ℕ) → AllByRecursion (λ e. contains nat_cmp streams e.0.0 ≡ true) entries
     → is_some (lookup (is_at (pair_cmp key)) entries) ≡ true → contains nat_cmp streams key.0 ≡ true
 key_streams streams [] key all there = absurd cc
 key_streams streams (e ∷ es) key all there =
-    elim (cases_Bool (is_eq (pair_cmp key e.0))) [
-      | inl t ↦
-          let same : key ≡ e.0 = exact_pairs nat_cmp nat_cmp exact_unsigned exact_unsigned key e.0 ((Equal-is (pair_cmp key e.0)).0 t) in
-          ap (λ (k : ℕ × ℕ). contains nat_cmp streams k.0) same ∙ all.0
-      | inr f ↦
-          let later : lookup (is_at (pair_cmp key)) (e ∷ es) ≡ lookup (is_at (pair_cmp key)) es = rw f refl in
-          key_streams streams es key all.1 (sym (ap is_some later) ∙ there)
-    ]
+    grind (arith, exact_pairs nat_cmp nat_cmp exact_unsigned exact_unsigned key e.0, Equal-is (pair_cmp key e.0), key_streams streams es key, all, there)
 
 -- ---- the end of a text
 

@@ -1,8 +1,9 @@
 -- Members by their names, structure types from their parts, and alignments.
 use Rattle.std.proofs.Common.{ap, ◌∙◌, ◌≡◌, ℕ, ◌<◌, List, ◌∷◌, length, Contains, Bool, true, false, ◌||◌, Decides, refl, sym, subst, inl, inr, arith, bytes_eq, Some, None, get_or, ◌↔◌, ◌%◌, ◌≤◌, Option, IsSome, IfSome, ◌==◌, ◌&&◌, []}
 use Rattle.std.proofs.lemmas.Map.Views.{Contains-from_any, list_any-from_Contains}
-use Rattle.tsdl_meaning.proofs.TextWords.{Atom, IsBehindAlign, IsLargeAlignment, IsPassed, MemberType, Number, StructType, align_of, bytes_eq-Decides, false≢true, has_member, if◌then◌else◌, is_negative, is_some, names_in, nat_lt, natural, number_toks, position, position_or_len, provided, struct_type, ◌>>=◌, lt-ltb, le-ltb, cases_lt, nat_list_eq_equiv, list_any}
+use Rattle.tsdl_meaning.proofs.TextWords.{Atom, IsBehindAlign, IsLargeAlignment, IsPassed, MemberType, Number, StructType, align_of, bytes_eq-Decides, false≢true, has_member, is_some, names_in, nat_lt, natural, number_toks, position, position_or_len, provided, struct_type, ◌>>=◌, lt-ltb, le-ltb, cases_lt, nat_list_eq_equiv, list_any}
 use Rattle.std.proofs.lemmas.List.Sums.{position_or_len_is}
+use Rattle.std.proofs.lemmas.Bool.Decides.{nat_tests}
 use Rattle.std.proofs.Math.Nat.{mod-eq_of_lt}
 use Rattle.ctf_types.specs.Alignment.{IsAlignment}
 use Rattle.tsdl_grammar.proofs.TypeParts.{struct_type-gives, struct_type-refuses}
@@ -40,17 +41,8 @@ struct_made None members align accepted is aligned = sym (struct_type-refuses me
 pub divisor_at_most : (a : ℕ) → 4096 % a ≡ 0 → a ≤ 4096
 divisor_at_most a h = elim (cases_lt 4096 a) [ inl above ↦ (let e : 4096 % a ≡ 4096 = mod-eq_of_lt above in absurd (omega arith)) | inr below ↦ below ]
 
--- a number that is not 0 has no sign of its own
-literal : (negative : Bool) (l v : ℕ) → 0 < v → (if negative then provided (l == 0) (Some 0) else Some l) ≡ Some v → l ≡ v
-literal false l v some e = cc
-literal true l v some e = by (l == 0) e
-  where
-    by : (b : Bool) → provided b (Some 0) ≡ Some v → l ≡ v
-    by true h = let z : 0 ≡ v = cc in absurd (omega arith)
-    by false h = absurd (cc)
-
 pub literal_is : (n : Number) (v : ℕ) → 0 < v → natural n ≡ Some v → n.literal ≡ v
-literal_is n v some e = literal (is_negative n.sign) n.literal v some e
+literal_is n v some e = grind (arith, nat_tests, some, e)
 
 pub large_align : (front : List Atom) (n : Number) (v : ℕ) → IsBehindAlign front → natural n ≡ Some v → 4096 < v → IsPassed front (number_toks n)
 large_align front n v ends e large =

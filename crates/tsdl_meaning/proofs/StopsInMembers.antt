@@ -4,7 +4,6 @@ use Rattle.tsdl_meaning.proofs.MemberNames.{member_there}
 use Rattle.tsdl_meaning.proofs.TextWords.{AreBrackets, Atom, Bracket, Entry, Global, Holds, IsBehindAlign, IsBehindBrace, IsBehindKind, IsInBrackets, IsMemberTooMany, IsMemberTwice, IsPassed, IsRangeTooMany, IsTwice, IsUnsupported, Kind, MemberTree, MemberType, Number, PassesLimit, StandsBehind, Stop, StopsIn, StopsWhere, String, Structure, align_toks, append-nil, behind_more, bracket_toks, bytes_eq, bytes_eq-Decides, depth, elements, entry_toks, false≢true, flat_map, has_member, kind_toks, label_toks, length-map, list_any, mark, member_toks, most, natural, next_entry_toks, number_toks, stops_after, struct_toks, word}
 use Rattle.tsdl_grammar.specs.declared.token.Mark.TheVariants as marks
 use Rattle.tsdl_grammar.specs.declared.tree.Label.{Label}
-use Rattle.tsdl_grammar.specs.declared.tree.Label.TheVariants.{Quoted, Bare}
 use Rattle.tsdl_grammar.specs.declared.tree.Bracket.TheVariants as brackets
 use Rattle.tsdl_meaning.specs.declared.judge.brackets.Lengths.{Lengths}
 use Rattle.tsdl_meaning.specs.MembersBefore.{AreMembers}
@@ -13,8 +12,7 @@ use Rattle.tsdl_meaning.proofs.FlawlessTypes.{lengths_of}
 use Rattle.tsdl_meaning.proofs.JudgedParts.{ends_part, holds_among, holds_more, holds_part, in_item, in_part, item_there}
 
 pub label_length : (l : Label) → length (label_toks l) ≡ 1
-label_length (Quoted s) = refl
-label_length (Bare w) = refl
+label_length l = grind arith
 
 -- ---- ranges
 

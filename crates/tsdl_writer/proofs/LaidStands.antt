@@ -1,11 +1,10 @@
 -- What is laid out spells its tokens again, whatever they are, where each of them can be written.
-use Rattle.tsdl_writer.proofs.TreeWords.{AllByRecursion, Atom, Block, IsString, List, Mark, [], ap, arith, codes, eqb, false, get_or, is_digit, is_identifier, is_letter, is_read, list_all, nat_tests, not, prefix_len, refl, text_toks, true, ℕ, ◌++◌, ◌||◌, ◌∙◌, ◌∷◌, ◌≡◌}
-use Rattle.tsdl_writer.proofs.Writable.{IsWritable}
-use Rattle.std.proofs.lemmas.List.Sums.{AllPass-from_list_all, list_all-from_AllPass}
+use Rattle.tsdl_writer.proofs.TreeWords.{AllByRecursion, Atom, Block, IsString, List, Mark, [], arith, codes, eqb, false, get_or, is_digit, is_identifier, is_letter, is_read, list_all, nat_tests, prefix_len, refl, text_toks, true, ℕ, ◌++◌, ◌||◌, ◌∷◌, ◌≡◌}
+use Rattle.tsdl_writer.proofs.Writable.{Can, IsWritable}
 use Rattle.tsdl_grammar.specs.declared.token.Mark.TheVariants as marks
 use Rattle.tsdl_grammar.specs.declared.atom.Atom.TheVariants as atoms
-use Rattle.tsdl_grammar.specs.{Bytes.{is_blank, is_name_start, is_name_byte}, Tokens.{HasMagicLine, mark_text}, Atoms.{Spells, Reads}}
-use Rattle.tsdl_grammar.proofs.{Runs.and_true, WordStands.IsName}
+use Rattle.tsdl_grammar.specs.{Bytes.{is_blank, is_name_byte}, Tokens.{HasMagicLine, mark_text}, Atoms.{Spells, Reads}}
+use Rattle.tsdl_grammar.proofs.{WordStands.IsName}
 use Rattle.tsdl_grammar.proofs.Continuation as continuation
 use Rattle.tsdl_grammar.proofs.WordStands as words
 use Rattle.tsdl_grammar.proofs.NumberStands as numbers
@@ -15,72 +14,37 @@ use Rattle.tsdl_grammar.proofs.ListStands as lists
 use Rattle.tsdl_writer.specs.declared.{layout.Depth.Depth, layout.Place.Place, layout.Next.Next}
 use Rattle.tsdl_writer.specs.declared.layout.Depth.TheVariants as depths
 use Rattle.tsdl_writer.specs.declared.layout.Place.TheVariants as places
-use Rattle.tsdl_writer.specs.declared.layout.Next.TheVariants as nexts
-use Rattle.tsdl_writer.specs.Layout.{atom_text, behind, atom_behind, next_of, line, closing_line, gap, laid, text_of}
-
-abbrev AreWritable : List Atom → Type 0
-AreWritable meant = AllByRecursion IsWritable meant
+use Rattle.tsdl_writer.specs.Layout.{atom_text, behind, atom_behind, next_of, gap, laid, text_of}
 
 -- ---- names
 
-letter_starts : (b : ℕ) → is_letter b ≡ true → is_name_start b ≡ true
-letter_starts b h = grind (arith, nat_tests)
-
-goes_on : (b : ℕ) → (is_letter b || is_digit b) ≡ true → is_name_byte b ≡ true
-goes_on b h = grind (arith, nat_tests)
-
 all_go_on : (bs : List ℕ) → list_all (λ d. is_letter d || is_digit d) bs ≡ true → list_all is_name_byte bs ≡ true
-all_go_on bs h = list_all-from_AllPass is_name_byte bs (λ k d l. goes_on (get_or bs k d) (AllPass-from_list_all (λ b. is_letter b || is_digit b) bs h k d l))
+all_go_on [] h = refl
+all_go_on (b ∷ bs) h = grind (arith, nat_tests, all_go_on bs, h)
 
 is_name : (w : List ℕ) → is_identifier w ≡ true → IsName w
 unfolding is_identifier
 is_name [] h = absurd cc
-is_name (c ∷ w) h =
-    let both = and_true (is_letter c) (list_all (λ d. is_letter d || is_digit d) w) h in
-    record { first = c; others = w; parts = refl; starts = letter_starts c both.0; goes_on = all_go_on w both.1 }
-
-starts_no_dot : (b : ℕ) → is_name_start b ≡ true → eqb b 46 ≡ false
-starts_no_dot b h = grind (arith, nat_tests)
-
-first_byte : (w rest : List ℕ) → (n : IsName w) → get_or (w ++ rest) 0 0 ≡ n.first
-first_byte w rest n = rw n.parts refl
+is_name (c ∷ w) h = record { first = c; others = w; parts = refl; starts = grind (arith, nat_tests, h); goes_on = grind (arith, all_go_on w, h) }
 
 -- ---- what stands behind a token
 
-line_blank : (d : Depth) → list_all is_blank (line d) ≡ true
-line_blank depths.Top = refl
-line_blank d = refl
-
-closing_blank : (d : Depth) → list_all is_blank (closing_line d) ≡ true
-closing_blank depths.Top = refl
-closing_blank d = refl
-
 gap_blank : (p : Place) (n : Next) (d : Depth) → list_all is_blank (gap p n d) ≡ true
-gap_blank places.Line nexts.Close d = closing_blank d
-gap_blank places.Line n d = line_blank d
-gap_blank places.Inside nexts.Close d = refl
-gap_blank places.Dotted nexts.Word d = refl
-gap_blank places.Apart nexts.Leaning d = refl
-gap_blank p n d = refl
+gap_blank p n d = grind arith
 
 -- no byte of a name, and no `=`
 apart : (d : Depth) (rest : List Atom) → let bytes = laid d places.Apart rest in (prefix_len is_name_byte bytes ≡ 0) × (eqb (get_or bytes 0 0) 61 ≡ false)
 apart d [] = (refl, refl)
-apart d (atoms.Mark marks.CloseBrace ∷ rest) = (refl, refl)
-apart d (a ∷ rest) = (refl, refl)
+apart d (a ∷ rest) = grind arith
 
 -- no second dot behind a dot
-no_dot : (d : Depth) (rest : List Atom) → AreWritable rest → eqb (get_or (laid d places.Dotted rest) 0 0) 46 ≡ false
-no_dot d [] h = refl
-no_dot d (atoms.Word w ∷ rest) h =
-    let n = is_name w h.0.identifier in
-    ap (λ (b : ℕ). eqb b 46) (first_byte w (laid d places.Apart rest) n) ∙ starts_no_dot n.first n.starts
-no_dot d (atoms.Mark marks.CloseBrace ∷ rest) h = refl
-no_dot d (a ∷ rest) h = refl
+no_dot : (d : Depth) (rest : List Atom) → Can rest → eqb (get_or (laid d places.Dotted rest) 0 0) 46 ≡ false
+no_dot d (atoms.Word w ∷ rest) h = let n = is_name w h.0.identifier in grind (arith, nat_tests, n.parts, n.starts)
+no_dot d rest h = grind arith
 
 -- ---- tokens
 
-mark_stands : (m : Mark) (d : Depth) (rest : List Atom) → AreWritable rest → Spells (laid (behind m d).0 (behind m d).1 rest) rest
+mark_stands : (m : Mark) (d : Depth) (rest : List Atom) → Can rest → Spells (laid (behind m d).0 (behind m d).1 rest) rest
     → Spells (mark_text m ++ laid (behind m d).0 (behind m d).1 rest) (atoms.Mark m ∷ rest)
 mark_stands marks.OpenBrace d rest h s = mark_steps.open_brace _ _ s
 mark_stands marks.CloseBrace d rest h s = mark_steps.close_brace _ _ s
@@ -98,7 +62,7 @@ mark_stands marks.Dot d rest h s = mark_steps.dot _ _ (no_dot d rest h) s
 mark_stands marks.Assign d rest h s = mark_steps.assign _ _ s
 mark_stands marks.Ellipsis d rest h s = mark_steps.ellipsis _ _ s
 
-atom_stands : (a : Atom) (d : Depth) (rest : List Atom) → IsWritable a → IsString a → AreWritable rest → Spells (laid (atom_behind a d).0 (atom_behind a d).1 rest) rest
+atom_stands : (a : Atom) (d : Depth) (rest : List Atom) → IsWritable a → IsString a → Can rest → Spells (laid (atom_behind a d).0 (atom_behind a d).1 rest) rest
     → Spells (atom_text a ++ laid (atom_behind a d).0 (atom_behind a d).1 rest) (a ∷ rest)
 atom_stands (atoms.Word w) d rest h t k s = words.word w (laid d places.Apart rest) rest (is_name w h.identifier) (apart d rest).0 s
 atom_stands (atoms.Number n) d rest h t k s = numbers.number n (laid d places.Apart rest) rest h (apart d rest).0 s
@@ -106,21 +70,20 @@ atom_stands (atoms.Text x) d rest h t k s = texts.string x (laid d places.Apart 
 atom_stands (atoms.Mark m) d rest h t k s = mark_stands m d rest k s
 atom_stands atoms.TooLarge d rest h t k s = absurd h
 
-stands : (d : Depth) (p : Place) (meant : List Atom) → AreWritable meant → AllByRecursion IsString meant → Spells (laid d p meant) meant
+stands : (d : Depth) (p : Place) (meant : List Atom) → Can meant → AllByRecursion IsString meant → Spells (laid d p meant) meant
 stands d p [] h t = lists.blanks (codes "\n") [] [] refl continuation.nothing
 stands d p (a ∷ rest) h t =
     let s = stands (atom_behind a d).0 (atom_behind a d).1 rest h.1 t.1 in
     lists.blanks (gap p (next_of a) d) (atom_text a ++ laid (atom_behind a d).0 (atom_behind a d).1 rest) (a ∷ rest) (gap_blank p (next_of a) d) (atom_stands a d rest h.0 t.0 h.1 s)
 
-are_read : (meant : List Atom) → AreWritable meant → list_all is_read meant ≡ true
+are_read : (meant : List Atom) → Can meant → list_all is_read meant ≡ true
 are_read [] h = refl
-are_read (atoms.Word w ∷ rest) h = let no_keyword : is_read (atoms.Word w) ≡ true = ap not h.0.no_keyword in rw (no_keyword, are_read rest h.1) refl
-are_read (a ∷ rest) h = are_read rest h.1
+are_read (a ∷ rest) h = grind (arith, are_read rest h.1, h.0)
 
 -- ---- the text
 
 -- the text of blocks has its magic line, reads as the blocks, and has no word that the grammar lacks
-pub text_reads : (bs : List Block) → AreWritable (text_toks bs) → AllByRecursion IsString (text_toks bs) → HasMagicLine (text_of bs) × Reads (text_of bs) (text_toks bs) × (list_all is_read (text_toks bs) ≡ true)
+pub text_reads : (bs : List Block) → Can (text_toks bs) → AllByRecursion IsString (text_toks bs) → HasMagicLine (text_of bs) × Reads (text_of bs) (text_toks bs) × (list_all is_read (text_toks bs) ≡ true)
 text_reads bs h t =
     let all = laid depths.Top places.Line (text_toks bs) in
     ((all, refl), continuation.reads (text_of bs) (text_toks bs) (lists.magic all (text_toks bs) (stands depths.Top places.Line (text_toks bs) h t)), are_read (text_toks bs) h)

@@ -1,9 +1,8 @@
 -- Calls that print, one behind the other, and loops of such calls.
-pub use Rattle.tsdl_writer.proofs.TreeWords.{All, All-more, Atom, Auto, Base, Begins, Bool, ClockType, Config, Denotes, Dyn, Ends, EnvironmentEntry, EventType, Int, IntType, IsHeld, IsHeldClock, IsHeldValue, List, Mapping, MemberType, Name, None, OnOk, Option, Printer, Prints, Result, SFits, Some, Static, StreamType, [], add-one, align_toks, all_event_blocks, ap, append-nil, append_assoc, arith, array_member, attributes, block_and_semicolon, blocks_of, braced, bracket_toks, cases_Bool, chain_of, clock_block, clock_numbers, closing, codes, context_numbers, count_bracket, drop, drop_all, drop_more, entries_toks, entry_toks, entry_tree, entry_trees, environment_blocks, event_block, event_blocks, event_header_members, false, false≢true, flag_word, flat_map, flat_map-append, get_or, header_members, high_toks, inl, inr, int_le, int_toks, integer_attributes, ints, is_none, item_toks, kind_toks, kind_tree, length, length_member, length_name, length_type, map, member_toks, member_toks_of, member_tree, member_trees, metadata_of, name_toks, named_fact_toks, named_fact_tree, natural_item, natural_number, next_entry_toks, number_member, number_toks, one_word, option_map, optional_items, order_word, refl, rules, scope_items, slice_get, stream_block, stream_blocks, subst, suc, sym, take, take_all, take_rest, text_item, text_toks, to_z-of_z, token_toks, trace_block, two_words, uuid_item, uuid_member, w128, w64, whole_item, whole_number, word_item, true, zero, ℕ, ◌++◌, ◌+◌, ◌-◌, ◌<◌, ◌==◌, ◌∙◌, ◌∷◌, ◌≡◌, ◌≤◌}
+pub use Rattle.tsdl_writer.proofs.TreeWords.{All, All-more, Atom, Auto, Base, Begins, Bool, ClockType, Config, Denotes, Dyn, Ends, EnvironmentEntry, EventType, Int, IntType, Item, IsHeld, IsHeldClock, IsHeldValue, List, Mapping, MemberType, Name, None, OnOk, Option, Printer, Prints, Result, SFits, Some, Static, StreamType, [], add-one, align_toks, all_event_blocks, ap, append-nil, append_assoc, arith, array_member, attributes, block_and_semicolon, blocks_of, braced, bracket_toks, cases_Bool, chain_of, clock_block, clock_numbers, closing, codes, context_numbers, count_bracket, drop, drop_all, drop_more, entries_toks, entry_toks, entry_tree, entry_trees, environment_blocks, event_block, event_blocks, event_header_members, false, false≢true, flag_word, flat_map, flat_map-append, get_or, header_members, high_toks, inl, inr, int_le, int_toks, integer_attributes, ints, is_none, item_toks, kind_toks, kind_tree, length, length_member, length_name, length_type, map, member_toks, member_toks_of, member_tree, member_trees, metadata_of, name_toks, named_fact_toks, named_fact_tree, natural_item, natural_number, next_entry_toks, number_member, number_toks, one_word, option_map, optional_items, order_word, refl, rules, scope_items, slice_get, stream_block, stream_blocks, subst, suc, sym, take, take_all, take_rest, text_item, text_toks, to_z-of_z, token_toks, trace_block, two_words, uuid_item, uuid_member, w128, w64, whole_item, whole_number, word_item, true, zero, ℕ, ◌++◌, ◌+◌, ◌-◌, ◌<◌, ◌==◌, ◌∙◌, ◌∷◌, ◌≡◌, ◌≤◌}
 use Rattle.std.proofs.lemmas.Result.{on_ok_weaker}
-use Rattle.tsdl_grammar.specs.declared.atom.Atom.TheVariants as atoms
 use Rattle.tsdl_grammar.specs.declared.token.Mark.TheVariants as marks
-use Rattle.tsdl_writer.proofs.TreeWords.{Item}
+use Rattle.tsdl_grammar.specs.declared.atom.Atom.TheVariants as atoms
 
 -- tokens as they stand behind one another, however trees group them
 pub ruleset groups = (append_assoc, flat_map-append, append-nil)
@@ -46,16 +45,10 @@ pub all_met : {A : Type 0} (P : A → Type 0) (xs : List A) (i : ℕ) → length
 all_met P xs i h all = subst (All P) (take_all i xs h) all
 
 -- the member at a place
-member_at_suc : (ms : List (List ℕ × MemberType)) (i : ℕ) (name : List ℕ) (t : MemberType) → option_map (λ m. m.0) (slice_get ms i) ≡ Some name → option_map (λ m. m.1) (slice_get ms i) ≡ Some t → drop i ms ≡ (name, t) ∷ drop (suc i) ms
-member_at_suc [] i name t e f = absurd cc
-member_at_suc ((n, m) ∷ ms) zero name t e f = cc
-member_at_suc (m ∷ ms) (suc i) name t e f = member_at_suc ms i name t e f
-
 pub member_at : (ms : List (List ℕ × MemberType)) (i : ℕ) (name : List ℕ) (t : MemberType) → option_map (λ m. m.0) (slice_get ms i) ≡ Some name → option_map (λ m. m.1) (slice_get ms i) ≡ Some t → drop i ms ≡ (name, t) ∷ drop (i + 1) ms
-member_at ms i name t e f = member_at_suc ms i name t e f ∙ ap (λ (k : ℕ). (name, t) ∷ drop k ms) (sym (add-one i))
-
-pub nothing_behind : {p : Printer} {text : List ℕ} (a rest : List Atom) → Ends p (a ++ rest) text → Ends p (a ++ [] ++ rest) text
-nothing_behind a rest e = regroup a [] rest e
+member_at [] i name t e f = absurd cc
+member_at ((n, m) ∷ ms) zero name t e f = cc
+member_at (m ∷ ms) (suc i) name t e f = grind (arith, member_at ms i name t e f)
 
 -- a member's line
 pub line : {p : Printer} {text : List ℕ} (kind named rest : List Atom) → Ends p (kind ++ (named ++ atoms.Mark marks.Semicolon ∷ rest)) text → Ends p (kind ++ named ++ atoms.Mark marks.Semicolon ∷ [] ++ rest) text
@@ -68,12 +61,10 @@ entry_groups label low high rest e = simp append_assoc (rw (append-nil low) at e
 
 -- features without a member are off
 pub three_off : (a b c : Option IntType) → number_member (codes "magic") a ++ uuid_member b ++ number_member (codes "stream_id") c ≡ [] → (is_none a ≡ true) × (is_none b ≡ true) × (is_none c ≡ true)
-three_off None None None e = (refl, refl, refl)
-three_off _ _ _ e = absurd cc
+three_off a b c e = grind (arith, e)
 
 pub two_off : (a b : Option IntType) → number_member (codes "id") a ++ number_member (codes "timestamp") b ≡ [] → (is_none a ≡ true) × (is_none b ≡ true)
-two_off None None e = (refl, refl)
-two_off _ _ e = absurd cc
+two_off a b e = grind (arith, e)
 
 -- a block of three lists of items
 pub block : {p : Printer} {text : List ℕ} (w : List ℕ) (xs ys zs : List Item) (rest : List Atom)
@@ -93,7 +84,7 @@ scope_groups {p} {text} name named members printed rest align same spelled e =
     let scope = atoms.Mark marks.Assign ∷ (atoms.Word (codes "struct") ∷ braced printed ++ aligned) in
     let inner : printed ++ brace ++ aligned ++ behind ≡ printed ++ (closing align ++ rest) = append_assoc (printed ++ brace) aligned behind ∙ append_assoc printed brace (aligned ++ behind) in
     let grouped = subst (λ (w : List Atom). Ends p (named ++ (atoms.Mark marks.Assign ∷ atoms.Word (codes "struct") ∷ atoms.Mark marks.OpenBrace ∷ w)) text) (sym inner) e in
-    rw (same, spelled) (nothing_behind (named ++ scope ++ atoms.Mark marks.Semicolon ∷ []) rest (regroup (named ++ scope) (atoms.Mark marks.Semicolon ∷ []) rest (regroup named scope behind grouped)))
+    rw (same, spelled) (regroup (named ++ scope ++ atoms.Mark marks.Semicolon ∷ []) [] rest (regroup (named ++ scope) (atoms.Mark marks.Semicolon ∷ []) rest (regroup named scope behind grouped)))
 
 -- a structure with members, under its name
 pub scoped : {p : Printer} {text : List ℕ} (name : Name) (named : List Atom) (ms : List (List ℕ × MemberType)) (align : ℕ) (rest : List Atom) → name_toks name ≡ named → (ms ≡ [] → ⊥)

@@ -1,7 +1,7 @@
 -- The blocks of an allowed configuration mean its metadata.
-use Rattle.tsdl_writer.proofs.TreeWords.{All, clock_items, AllByRecursion, Block, ClockType, Config, Denotes, EnvironmentEntry, IsConfig, IsHeld, IsHeldClock, IsMetadata, IsString, Item, List, Some, StreamType, [], all_event_blocks, ap, append-nil, arith, at_most_one, blocks_of, clock_block, clock_in, clock_meaning, each, environment_blocks, environment_in, event_block, event_blocks, event_in, flat_map, flat_map-append, header_members, header_of, known_of, map, metadata_is_allowed, metadata_of, named_fact_tree, numbered, recursion_from_All, refl, stream_block, stream_blocks, stream_in, streams_meaning, streams_of, text_meta, text_toks, trace_block, trace_in, trace_items, written, ℕ, ◌++◌, ◌+◌, ◌∙◌, ◌∷◌, ◌≡◌}
+use Rattle.tsdl_writer.proofs.TreeWords.{All, clock_items, AllByRecursion, Block, ClockType, Config, Denotes, EnvironmentEntry, IsConfig, IsHeld, IsHeldClock, IsMetadata, IsString, Item, List, Some, StreamType, [], all_event_blocks, ap, append-nil, arith, at_most_one, blocks_of, clock_block, clock_in, clock_meaning, each, environment_blocks, environment_in, event_block, event_blocks, event_in, flat_map, flat_map-append, header_meaning, header_members, header_of, known_of, map, metadata_is_allowed, metadata_of, named_fact_tree, numbered, recursion_from_All, refl, stream_block, stream_blocks, stream_in, streams_meaning, streams_of, text_meta, text_toks, trace_block, trace_in, trace_items, written, ℕ, ◌++◌, ◌+◌, ◌∙◌, ◌∷◌, ◌≡◌}
 use Rattle.tsdl_writer.proofs.{FieldMeanings.each_own, StructureMeanings.structure_read, StructuresRead.{header_shows, header_suits}}
-use Rattle.tsdl_writer.proofs.BlockMeanings.{trace_found, trace_uuid_is, header_is, clock_is, environment_is, no_two-distinct}
+use Rattle.tsdl_writer.proofs.BlockMeanings.{trace_found, trace_uuid_is, clock_is, environment_is, no_two-distinct}
 use Rattle.tsdl_writer.proofs.{NumberedBlocks.{none_taken, bares_by_number, all_tagged, all_have, each_with}, StreamMeanings.{streams_read, all_events_read}}
 use Rattle.tsdl_writer.proofs.{LaidStands.text_reads, BlocksWritable.blocks_writable}
 use Rattle.std.proofs.lemmas.{List.Concat.flat_map_single, List.Folds.{flat_map-map}}
@@ -16,18 +16,14 @@ no_streams : {C : Type 0} (f : Block → List C) (ss : List StreamType) → ((k 
 no_streams f ss h = numbered_none f (λ id s. stream_block id s ∷ []) 0 ss h
 
 no_environment : {C : Type 0} (f : Block → List C) (es : List EnvironmentEntry) → ((fs : List NamedFact) → f (blocks.Environment fs) ++ [] ≡ []) → flat_map f (environment_blocks es) ≡ []
-no_environment f [] h = refl
-no_environment f (e ∷ es) h = h (map named_fact_tree (e ∷ es))
+no_environment f es h = grind (arith, h)
 
 no_events : {C : Type 0} (f : Block → List C) (ss : List StreamType) → ((is : List Item) → f (blocks.Event is) ++ [] ≡ []) → flat_map f (all_event_blocks 0 ss) ≡ []
 no_events f ss h = numbered_none f (λ stream s. event_blocks stream 0 s.events) 0 ss (λ k s. numbered_none f (λ id e. event_block k id e ∷ []) 0 s.events (λ id e. h _))
 
-four : {C : Type 0} (f : Block → List C) (xs ys zs ws : List Block) → flat_map f (xs ++ ys ++ zs ++ ws) ≡ flat_map f xs ++ flat_map f ys ++ flat_map f zs ++ flat_map f ws
-four f xs ys zs ws = simp flat_map-append
-
 taken : {C : Type 0} (f : Block → List C) (c : Config) → flat_map f (blocks_of c) ≡ f (trace_block c) ++ flat_map f (environment_blocks c.environment) ++ flat_map f (map clock_block c.clocks)
     ++ flat_map f (stream_blocks 0 c.streams) ++ flat_map f (all_event_blocks 0 c.streams)
-taken f c = four f (trace_block c ∷ environment_blocks c.environment) (map clock_block c.clocks) (stream_blocks 0 c.streams) (all_event_blocks 0 c.streams)
+taken f c = simp flat_map-append
 
 trace_alone : (c : Config) → flat_map trace_in (blocks_of c) ≡ trace_items c.uuid c.order (header_members c.header) ∷ []
 trace_alone c =
@@ -51,8 +47,7 @@ clocks_read cs h =
     ap (each clock_meaning) (flat_map-map clock_in clock_block cs ∙ flat_map_single clock_items cs) ∙ each_own IsHeldClock clock_meaning clock_items (λ c held. clock_is c held.uuid held.offset_seconds) cs h
 
 facts_read : (es : List EnvironmentEntry) → at_most_one (flat_map environment_in (environment_blocks es)) ≡ Some (map named_fact_tree es)
-facts_read [] = refl
-facts_read (e ∷ es) = refl
+facts_read es = grind arith
 
 streams_meant : (c : Config) → IsConfig c → IsMetadata (metadata_of c) → streams_meaning (known_of c.order c.clocks) (blocks_of c) ≡ Some (streams_of 0 c.streams)
 unfolding streams_meaning metadata_of
@@ -64,11 +59,10 @@ streams_meant c h m =
 
 -- the blocks mean the metadata
 pub text_meant : (c : Config) → IsConfig c → IsHeld c → text_meta (blocks_of c) ≡ Some (metadata_of c)
-unfolding text_meta metadata_of
+unfolding text_meta metadata_of header_meaning
 text_meant c h held =
     let m = metadata_is_allowed c h in let at = trace_found c.uuid c.order (header_members c.header) in
     let known = known_of c.order c.clocks in
-    let header = header_is known c.uuid c.order (header_members c.header) (header_of c) (structure_read known (header_members c.header) 8 (header_of c) (header_shows known.clocks c m.header), header_suits (header_of c).members m.magic m.uuid m.stream_id) in
     rw (
       trace_alone c,
       at.0,
@@ -80,7 +74,9 @@ text_meant c h held =
       clocks_alone c,
       clocks_read c.clocks held.clocks,
       no_two-distinct (map (λ k. k.name) c.clocks) m.clocks_distinct,
-      header,
+      at.2,
+      structure_read known (header_members c.header) 8 (header_of c) (header_shows known.clocks c m.header),
+      header_suits (header_of c).members m.magic m.uuid m.stream_id,
       streams_meant c h m,
     ) refl
 
@@ -88,5 +84,5 @@ text_meant c h held =
 pub written_denotes : (c : Config) → IsConfig c → IsHeld c → AllByRecursion IsString (text_toks (blocks_of c)) → Denotes (written c) (metadata_of c)
 unfolding written
 written_denotes c h held strings =
-    let reads = text_reads (blocks_of c) (blocks_writable c h held).all strings in
+    let reads = text_reads (blocks_of c) (blocks_writable c h held) strings in
     (reads.0, text_toks (blocks_of c), reads.1, reads.2, (blocks_of c, refl, text_meant c h held))

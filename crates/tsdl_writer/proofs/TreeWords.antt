@@ -1,7 +1,7 @@
 -- The words of configurations, trees and tokens that the proofs speak of, and the lemmas that many of them take.
-pub use Rattle.std.proofs.Common.{All, Bool, Contains, IfSome, IsUtf8, List, None, OnOk, Option, Result, SFits, Some, [], add-one, ap, append-nil, append_assoc, arith, bytes_eq, codes, drop, eq-eqb, eqb, false, flat_map, get_or, inl, inr, int_le, is_none, le-leb, length, length-append, lt-ltb, ltb, map, max, mod-eq_of_lt, nat_le, nat_lt, negsuc, not, option_map, pos, refl, rules, slice_get, subst, suc, sym, take, take_all, to_z-of_z, true, w64, zero, ℕ, ℤ, ◌%◌, ◌&&◌, ◌*◌, ◌++◌, ◌+◌, ◌-◌, ◌<◌, ◌==◌, ◌^◌, ◌||◌, ◌∙◌, ◌∷◌, ◌≡◌, ◌≤ℤ◌, ◌≤◌}
+pub use Rattle.std.proofs.Common.{All, Bool, Contains, IfSome, IsUtf8, List, None, OnOk, Option, Result, SFits, Some, [], add-one, ap, append-nil, append_assoc, arith, bytes_eq, codes, drop, eq-eqb, eqb, false, flat_map, get_or, inl, inr, int_le, is_none, le-leb, length, length-append, lit<, lt-ltb, ltb, map, max, mod-eq_of_lt, nat_le, nat_lt, negsuc, not, option_map, pos, refl, rules, slice_get, subst, suc, sym, take, take_all, to_z-of_z, true, w64, zero, ℕ, ℤ, ◌%◌, ◌&&◌, ◌*◌, ◌++◌, ◌+◌, ◌-◌, ◌<◌, ◌==◌, ◌^◌, ◌||◌, ◌∙◌, ◌∷◌, ◌≡◌, ◌≤ℤ◌, ◌≤◌}
 pub use Rattle.ctf_types.proofs.{AllowedMembers.{metadata_name_of_plain, no_members_shown, struct_is_allowed}, AllowedMetadata.{metadata_is_allowed, struct_with-members}}
-pub use Rattle.ctf_types.specs.Allowed.{HasBits, IsByteType, IsIdentity, IsLeaf, IsMagic, IsMappedTo, IsMetadata, IsNest, IsRange, IsStream, IsStruct, IsUnsigned}
+pub use Rattle.ctf_types.specs.Allowed.{HasBits, IsField, Where, IsByteType, IsIdentity, IsLeaf, IsMagic, IsMappedTo, IsMetadata, IsNest, IsRange, IsStream, IsStruct, IsUnsigned}
 pub use Rattle.ctf_types.specs.AllowedConfig.{IsClockType, IsConfig, IsConfigMember, IsConfigStruct, IsEventType, IsStreamType}
 pub use Rattle.ctf_types.specs.{Chain.{ByteString, Labelled, Leaf, Number}, FieldTypes.chain_of, Members.names_in}
 pub use Rattle.ctf_types.specs.MetadataOf.{context_numbers, event_header_members, header_members, number_member, struct_with, uuid_member}
@@ -28,7 +28,7 @@ unfoldable pub use Rattle.tsdl_grammar.specs.BlockMeaning.{clock_meaning, enviro
 unfoldable pub use Rattle.tsdl_grammar.specs.{Denotes.{streams_meaning, text_meta}, IntegerMeaning.{base_value, clock_value, int_meaning}}
 unfoldable pub use Rattle.tsdl_grammar.specs.MemberMeaning.{bracketed, entry_meaning, enum_meaning, kind_meaning, member_meaning, text_meaning}
 unfoldable pub use Rattle.tsdl_grammar.specs.StructureMeaning.{members_meaning, struct_meaning}
-pub use Rattle.tsdl_grammar.specs.declared.{atom.Atom.Atom, token.Mark.Mark, tree.Block.Block, tree.Item.Item, tree.Name.Name}
+pub use Rattle.tsdl_grammar.specs.declared.{atom.Atom.Atom, token.Mark.Mark, tree.Block.Block, tree.Item.Item, tree.Name.Name, tree.Structure.Structure}
 pub use Rattle.tsdl_writer.specs.{Held.{IsHeld, IsHeldClock, IsHeldUuid, IsHeldValue}, Prints.{Begins, Ends, IsString, Prints, token_toks}}
 pub use Rattle.tsdl_writer.specs.Trees.{all_event_blocks, array_member, attributes, base_number, blocks_of, clock_block, clock_items, clock_numbers, closing, count_bracket, entry_tree, entry_trees, environment_blocks, event_block, event_blocks, event_items, fact_tree, flag_word, high_number, integer_attributes, kind_tree, length_member, mapping_attributes, member_toks_of, member_tree, member_trees, named_fact_tree, natural_attribute, natural_item, natural_number, numbered, one_word, optional_items, order_word, scope_items, stream_block, stream_blocks, stream_items, structure_tree, text_item, trace_block, trace_items, two_words, uuid_item, whole_item, whole_number, word_attribute, word_item}
 unfoldable pub use Rattle.tsdl_writer.specs.Written.{written}

@@ -1,11 +1,10 @@
-use Rattle.tsdl_writer.proofs.Printing.{braced, entries_toks, entry_trees, int_toks, integer_attributes, sym, last, regroup}
+use Rattle.tsdl_writer.proofs.Printing.{last, regroup}
 use Rattle.tsdl_writer.proofs.types.+kind.Goals as goal
 
 pub returns-in_ok-entries-in-Enum : goal.returns-in_ok-entries-in-Enum
 returns-in_ok-entries-in-Enum t c =
-    let int = int_toks (integer_attributes c.in-Enum.labels.int) in let labels = entries_toks (entry_trees c.as_slice.result.now) in
-    rw c.in-Enum.is (last c.token-in-Enum.result c.token-in-Enum.ensures (λ one rest text e. rw (sym c.as_slice.ensures)
-    (c.in_ok-print-in-Enum.ensures _ text (regroup int (braced labels) rest (c.in_ok-integer-in-Enum.ensures _ text (c.in_ok-token-in-Enum.ensures _ text (regroup labels _ rest (c.in_ok-entries-in-Enum.ensures _ text (one rest text e)))))))))
+    let labels = rw c.as_slice.ensures at c.in_ok-entries-in-Enum.ensures in
+    rw c.in-Enum.is (last c.token-in-Enum.result c.token-in-Enum.ensures (λ one. search (regroup, c.in_ok-print-in-Enum.ensures, c.in_ok-integer-in-Enum.ensures, c.in_ok-token-in-Enum.ensures, labels, one) depth 20))
 
 pub returns-in_ok-attribute-in-Str : goal.returns-in_ok-attribute-in-Str
 returns-in_ok-attribute-in-Str t c =

@@ -3,6 +3,5 @@ use Rattle.tsdl_writer.proofs.types.mapping.Goals as goal
 
 pub returns : goal.returns
 returns c =
-    rw c.in-Some.is (last c.token.result c.token.ensures (λ one rest text e.
-    rw c.as_str.ensures at
-    (c.in_ok-print.ensures _ text (c.in_ok-print-2.ensures _ text (one rest text e)))))
+    let last_words = rw c.as_str.ensures at c.in_ok-print-2.ensures in
+    rw c.in-Some.is (last c.token.result c.token.ensures (λ one. search (c.in_ok-print.ensures, last_words, one) depth 20))

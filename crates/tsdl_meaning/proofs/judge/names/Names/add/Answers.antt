@@ -1,12 +1,11 @@
-use Rattle.std.proofs.Common.{◌≡◌, ℕ, Bool, true, false, not, cond, List, sym, ap, ◌∙◌}
+use Rattle.std.proofs.Common.{◌≡◌, ℕ, Bool, true, not, cond, List, sym, ap, ◌∙◌, arith}
 use Rattle.tsdl_meaning.proofs.TextWords.{bytes_eq, contains_text, string_bytes, written}
 use Rattle.std.proofs.lemmas.Map.Text.{btree_set_updates_text}
 use Rattle.tsdl_meaning.proofs.StopsInAttributes.{named_twice}
 use Rattle.tsdl_meaning.proofs.judge.names.Names.add.Goals as goal
 
 was_there : (there new : Bool) → new ≡ not there → there ≡ not new
-was_there true new e = ap not (sym e)
-was_there false new e = ap not (sym e)
+was_there there new e = grind (arith, e)
 
 pub returns-clause-fault : goal.returns-clause-fault
 returns-clause-fault c = λ sign front behind named.
