@@ -2,6 +2,7 @@ pub use Rattle.data_types.specs.Alignment
 pub use Rattle.data_types.specs.Chain
 pub use Rattle.data_types.specs.Datum
 pub use Rattle.data_types.specs.ElementFalls
+pub use Rattle.data_types.specs.FaultWords
 pub use Rattle.data_types.specs.FieldTypes
 pub use Rattle.data_types.specs.Members
 pub use Rattle.data_types.specs.Values

@@ -2,6 +2,7 @@ pub mod Alignment
 pub mod Chain
 pub mod Datum
 pub mod ElementFalls
+pub mod FaultWords
 pub mod FieldTypes
 pub mod Members
 pub mod Values

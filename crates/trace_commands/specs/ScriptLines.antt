@@ -1,5 +1,5 @@
 -- Where the line of a script's fault says that the fault lies.
-use Rattle.std.specs.Prelude.{◌≡◌, ◌⊎◌, ℕ, List, ◌++◌, Option, Some, IfSome, codes, slice_get}
+use Rattle.std.specs.Prelude.{◌≡◌, ◌⊎◌, ℕ, List, ◌++◌, Some, codes, slice_get}
 use Rattle.std.specs.Fmt.{decimal}
 use Rattle.serde_json.specs.Data.{Data}
 use Rattle.conf_fault.specs.Explanation.{IsPlaceWords}
@@ -23,12 +23,10 @@ of_entry Neither number said = said
 of_entry Streams number said = codes "streams/" ++ (decimal number ++ (codes ": " ++ said))
 of_entry Events number said = codes "events/" ++ (decimal number ++ (codes ": " ++ said))
 
--- the line of the script's file speaks of the stream of this number, names it and says these words of it, where there are any
-pub record IsStreamLine (file : List ℕ) (s : Script) (number : ℕ) (wanted : Option (List ℕ)) (line : List ℕ) : Type 0 where
+-- the line of the script's file speaks of the stream of this number, names it and says these words of it
+pub record IsStreamLine (file : List ℕ) (s : Script) (number : ℕ) (words : List ℕ) (line : List ℕ) : Type 0 where
   pub stream : ScriptStream
   pub there : slice_get s.streams number ≡ Some stream
-  pub words : List ℕ
-  pub these : IfSome wanted (λ w. words ≡ w)
   pub said : line ≡ fault_line file (of_entry Streams number (cut stream.name ++ codes ": " ++ words))
 
 -- ---- a text that is no script

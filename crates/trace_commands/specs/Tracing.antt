@@ -58,7 +58,7 @@ IsTracePath t path = (path ≡ t.config.now) ⊎ (path ≡ t.script.now) ⊎ IsP
 
 -- ---- refusals: nothing is printed, one line says the fault, and the status is 1
 
-abbrev pub IsSaidOfStream : List ℕ → Script → ℕ → Option (List ℕ) → List ℕ → List ℕ → ℕ → Type 0
+abbrev pub IsSaidOfStream : List ℕ → Script → ℕ → List ℕ → List ℕ → List ℕ → ℕ → Type 0
 IsSaidOfStream file s number words output errors status = (output ≡ []) × IsStreamLine file s number words errors × (status ≡ 1)
 
 abbrev pub stream_names : Script → List (List ℕ)
@@ -202,7 +202,7 @@ module _ {File : Type 0} (contents : File → Option (List ℕ)) where
     -- of a script: its names, and then its folder and its streams
     abbrev pub TellsScript : TraceCommand → Config → Script → List ℕ → List ℕ → ℕ → Type 0
     TellsScript t c s output errors status =
-        ((number : ℕ) × (fault : NameFault) × IsBadName s number fault × IsSaidOfStream t.script.now s number (Some (name_words fault)) output errors status)
+        ((number : ℕ) × (fault : NameFault) × IsBadName s number fault × IsSaidOfStream t.script.now s number (name_words fault) output errors status)
         ⊎ (AreFree s × TellsFolder t.resume t c s output errors status)
 
     -- of the text of a script's file

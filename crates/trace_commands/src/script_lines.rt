@@ -1,6 +1,6 @@
 //! The lines of a script's faults.
 
-ghost use Rattle.std.specs.Prelude.{◌<◌, IfOk, length, string_bytes};
+ghost use Rattle.std.specs.Prelude.{◌<◌, IfOk, IfSome, length, string_bytes};
 ghost use Rattle.trace_text.specs.ScriptFaults.{IsFirstFault};
 ghost use Rattle.trace_commands.specs.ScriptLines.{IsScriptLine, IsStreamLine, SaysPosition, SaysWhere};
 
@@ -69,7 +69,7 @@ pub fn refused_line<F: Display + Drop>(
     fault: F,
 ) -> Result<Vec<u8>, AllocError>
     requires { number < length script.now.streams }
-    ensures { IfOk result (λ line. IsStreamLine file.now script.now number (F.output fault) line.items) }
+    ensures { IfSome (F.output fault) (λ words. IfOk result (λ line. IsStreamLine file.now script.now number words line.items)) }
 {
     let mut said = String::new(alloc);
     push_cut(&mut said, script.streams.as_slice()[number].name.as_str())?;
