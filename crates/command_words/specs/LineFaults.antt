@@ -1,5 +1,5 @@
 -- How words that ask for no command are answered: with help where help or the version is asked for, as a bad line elsewhere.
-use Rattle.std.specs.Prelude.{◌≡◌, ◌≢◌, ◌⊎◌, List, [], ◌++◌, Option, None, Some, ⊤, codes, string_bytes}
+use Rattle.std.specs.Prelude.{◌≡◌, ◌≢◌, ◌⊎◌, ℕ, ◌-◌, ◌^◌, List, [], ◌∷◌, ◌++◌, Contains, Option, None, Some, ⊤, codes, decimal, string_bytes}
 use Rattle.clap.specs.Words.{Row, Text, first_of, fault_of, subcommand_of, Kinds, IsAmong}
 use Rattle.clap.specs.declared.error.kind.ErrorKind.{ErrorKind}
 use Rattle.clap.specs.declared.error.kind.ErrorKind.TheVariants as kind
@@ -30,10 +30,28 @@ value_line option value expected =
 abbrev pub missing_line : Text → Text
 missing_line word = codes "error: nothing is given for " ++ (word ++ help_hint)
 
+abbrev pub range_words : ℕ → ℕ → Text
+range_words least most = codes "a whole number from " ++ (decimal least ++ (codes " to " ++ decimal most))
+
+abbrev pub flag_words : Text
+flag_words = codes "`true` or `false`"
+
+abbrev pub uuid_words : Text
+uuid_words = codes "an identifier, as `urn:uuid:` or 32 hexadecimal digits in groups of 8, 4, 4, 4 and 12"
+
+-- the options, and what is expected of each: of a quota that there are workers, and then a number
+abbrev pub expectations : List (Text × Text)
+expectations =
+    (codes "packet", range_words 1 (2 ^ 20)) ∷ (codes "buffers", range_words 1 1024) ∷ (codes "uuid", uuid_words) ∷ (codes "quiet", flag_words)
+    ∷ (codes "workers", flag_words) ∷ (codes "quota", codes "no quota without --workers") ∷ (codes "quota", range_words 0 (2 ^ 58 - 1)) ∷ (codes "resume", flag_words) ∷ []
+
+abbrev pub Expects : Text → Text → Type 0
+Expects option expected = Contains expectations (option, expected)
+
 -- this value of this option is told, and what was expected in its place
 abbrev pub TellsValue : Text → Text → LineFault → Type 0
 TellsValue option value (Help text) = ⊥
-TellsValue option value (Bad text) = (expected : Text) × (string_bytes text ≡ value_line option value expected)
+TellsValue option value (Bad text) = (expected : Text) × Expects option expected × (string_bytes text ≡ value_line option value expected)
 TellsValue option value OutOfMemory = ⊤
 
 -- that nothing is given for this word

@@ -1,9 +1,13 @@
 -- The words that the program knows, as its parser of command lines sees them: a command of the program has a name, words that it needs in
 -- their order (CONFIG, SCRIPT, DIR), and options with or without a value.
 use Rattle.std.specs.Prelude.{List, [], ◌∷◌, Some, true, codes}
-use Rattle.clap.specs.Words.{App, Rule, Shape, Text, new_rule, with_subcommand}
-use Rattle.clap.specs.Simple.{new_shape}
+use Rattle.clap.specs.Words.{App, Rule, Shape, Text, new_app, new_rule, with_subcommand}
+use Rattle.clap.specs.Simple.{new_shape, with_rule}
 use Rattle.clap.specs.declared.builder.action.ArgAction.TheVariants.{SetTrue}
+use Rattle.command_words.specs.declared.known_word.Form.{Form}
+use Rattle.command_words.specs.declared.known_word.Form.TheVariants.{Defaulted, Flag, Needed, Valued}
+use Rattle.command_words.specs.declared.known_word.KnownWord.{KnownWord}
+use Rattle.command_words.specs.declared.program_words.KnownCommand.{KnownCommand}
 
 -- a word that is needed at its place
 abbrev pub needed : Text → Rule
@@ -56,15 +60,6 @@ check = shape_with (codes "check") (config ∷ [])
 abbrev pub metadata : Shape
 metadata = shape_with (codes "metadata") (config ∷ uuid ∷ [])
 
-abbrev pub trace_places : Shape
-trace_places = shape_with (codes "trace") (config ∷ script ∷ folder ∷ [])
-
-abbrev pub trace_sizes : Shape
-trace_sizes = shape_with (codes "trace") (config ∷ script ∷ folder ∷ packet ∷ buffers ∷ [])
-
-abbrev pub trace_wishes : Shape
-trace_wishes = shape_with (codes "trace") (config ∷ script ∷ folder ∷ packet ∷ buffers ∷ uuid ∷ quiet ∷ [])
-
 abbrev pub trace : Shape
 trace = shape_with (codes "trace") (config ∷ script ∷ folder ∷ packet ∷ buffers ∷ uuid ∷ quiet ∷ workers ∷ quota ∷ resume ∷ [])
 
@@ -78,8 +73,28 @@ own = record {
   subs = [];
 }
 
-abbrev pub judging : App
-judging = with_subcommand (with_subcommand own check) metadata
-
 abbrev pub program : App
-program = with_subcommand (with_subcommand judging trace) read
+program = with_subcommand (with_subcommand (with_subcommand (with_subcommand own check) metadata) trace) read
+
+-- ---- tables of words and of commands
+
+-- what a word of a table asks for
+abbrev pub rule_of_form : Form → Text → Rule
+rule_of_form (Needed name) id = needed id
+rule_of_form (Valued name) id = valued id
+rule_of_form (Defaulted name value) id = record (valued id) { defaults = value.now ∷ [] }
+rule_of_form Flag id = flag id
+
+abbrev pub rule_of_word : KnownWord → Rule
+rule_of_word w = rule_of_form w.form w.id.now
+
+abbrev pub with_words : App → List KnownWord → App
+with_words a [] = a
+with_words a (w ∷ ws) = with_words (with_rule a (rule_of_word w)) ws
+
+abbrev pub shape_of_command : KnownCommand → Shape
+shape_of_command c = (with_words (new_app c.name.now) c.words.now).top
+
+abbrev pub with_commands : App → List KnownCommand → App
+with_commands a [] = a
+with_commands a (c ∷ cs) = with_commands (with_subcommand a (shape_of_command c)) cs

@@ -3,7 +3,7 @@
 ghost use Rattle.std.specs.Prelude.{◌⊎◌, map, IfOk, IfErr};
 ghost use Rattle.clap.specs.Words.{rows_of, found_of};
 ghost use Rattle.command_words.specs.CommandLine.{Asks, AsksBy, AsksTrace, AsksMetadata, AsksRead, HasWord, HasNumber, HasUuid, HasFlag, HasResuming, IsMemory};
-ghost use Rattle.command_words.specs.LineFaults.{IsBlamed, IsBlamedOf, IsFaultOfWords, TellsMissing};
+ghost use Rattle.command_words.specs.LineFaults.{Expects, IsBlamed, IsBlamedOf, IsFaultOfWords, TellsMissing, flag_words, range_words};
 ghost use Rattle.command_words.specs.declared.commands.Command.{Command as Wanted};
 
 use crate::commands::{
@@ -126,6 +126,7 @@ fn needed<'a>(alloc: Global, found: &ArgMatches<'a>, id: &str) -> Result<&'a str
 
 /// The number that was found for an option.
 fn counted(alloc: Global, found: &ArgMatches<'_>, id: &str, most: u32) -> Result<u32, LineFault>
+    requires { Expects id.now (range_words 1 most) }
     ensures has { IfOk result (λ n. HasNumber (rows_of (found_of found.now)) id.now most n) }
     ensures blamed { IfErr result (IsBlamed (λ rows n. HasNumber rows id.now most n) (rows_of (found_of found.now))) }
 {
@@ -143,6 +144,7 @@ fn identified(alloc: Global, found: &ArgMatches<'_>) -> Result<Option<Uuid>, Lin
 
 /// Whether a flag was found.
 pub fn flag(alloc: Global, found: &ArgMatches<'_>, id: &str) -> Result<bool, LineFault>
+    requires { Expects id.now flag_words }
     ensures has { IfOk result (λ b. HasFlag (rows_of (found_of found.now)) id.now b) }
     ensures blamed { IfErr result (IsBlamed (λ rows b. HasFlag rows id.now b) (rows_of (found_of found.now))) }
 {

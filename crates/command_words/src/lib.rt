@@ -3,6 +3,7 @@
 
 mod command_line;
 mod commands;
+mod known_word;
 mod line_fault;
 mod program_words;
 mod quota;

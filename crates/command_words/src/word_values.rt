@@ -2,7 +2,7 @@
 
 ghost use Rattle.std.specs.Prelude.{◌≡◌, ◌⊎◌, ℕ, List, Option, IfOk, IfErr, Some, codes, option_map};
 ghost use Rattle.command_words.specs.CommandLine.{SaysNumber, IsMemory, uuid_said};
-ghost use Rattle.command_words.specs.LineFaults.{TellsValue};
+ghost use Rattle.command_words.specs.LineFaults.{Expects, TellsValue, range_words};
 
 use crate::line_fault::LineFault;
 use std::alloc::Global;
@@ -10,6 +10,7 @@ use uuid::Uuid;
 
 /// The number that the value of an option says: from 1 to `most`, in decimal digits, perhaps behind a plus sign.
 pub fn number(alloc: Global, option: &str, value: &str, most: u32) -> Result<u32, LineFault>
+    requires { Expects option.now (range_words 1 most) }
     ensures says { IfOk result (λ n. SaysNumber value.now most n) }
     ensures refused { IfErr result (λ fault. IsMemory fault ⊎ ((n : ℕ) → SaysNumber value.now most n → ⊥)) }
     ensures told { IfErr result (TellsValue option.now value.now) }
@@ -42,6 +43,7 @@ pub fn identifier(alloc: Global, value: Option<&str>) -> Result<Option<Uuid>, Li
 
 /// That the value of an option is no whole number from the least to the most.
 pub fn out_of_range(alloc: Global, option: &str, value: &str, least: u64, most: u64) -> LineFault
+    requires { Expects option.now (range_words least most) }
     ensures { TellsValue option.now value.now result }
 {
     match format!(in alloc; "a whole number from {least} to {most}") {
@@ -52,6 +54,7 @@ pub fn out_of_range(alloc: Global, option: &str, value: &str, least: u64, most: 
 
 /// That the value of an option says nothing of what is expected there.
 pub fn bad_value(alloc: Global, option: &str, value: &str, expected: &str) -> LineFault
+    requires { Expects option.now expected.now }
     ensures { TellsValue option.now value.now result }
 {
     match format!(in alloc;

@@ -1,4 +1,4 @@
-use Rattle.std.proofs.Common.{Bool, List, codes}
+use Rattle.std.proofs.Common.{Bool, List, codes, refl, arith}
 use Rattle.clap.specs.Words.{found_of, rows_of, Row}
 use Rattle.command_words.specs.CommandLine.{HasWord, HasFlag, AsksRead}
 use Rattle.command_words.proofs.CommandLineLaws.{blame_on}
@@ -13,3 +13,6 @@ pub returns-in_err-is_quiet-clause-blamed : goal.returns-in_err-is_quiet-clause-
 returns-in_err-is_quiet-clause-blamed c =
     blame_on c.from_residual-in_err-is_quiet.result c.in_err-is_quiet.field-0.0 (λ (rows : List Row) (b : Bool). HasFlag rows (codes "quiet") b) AsksRead (rows_of (found_of c.args.found.now))
     c.from_residual-in_err-is_quiet.ensures.1 c.in_err-is_quiet.ensures.blamed (λ others x a. (x.is_quiet, a.quiet))
+
+pub flag-requires : goal.flag-requires
+flag-requires c = (3, omega arith, refl)

@@ -1,4 +1,4 @@
-use Rattle.std.proofs.Common.{◌∙◌, inr, Bool, List, Option, option_map, sym, subst, codes}
+use Rattle.std.proofs.Common.{◌∙◌, inr, Bool, List, Option, option_map, refl, sym, subst, codes, arith}
 use Rattle.clap.specs.Words.{found_of, rows_of, Row, Text}
 use Rattle.clap.proofs.WalkLemmas.{first_value-rows}
 use Rattle.command_words.specs.CommandLine.{HasFlag, HasWorkers, SaysQuota}
@@ -45,3 +45,9 @@ returns-in-Some-clause-blamed c =
       (λ others q alike has. no_workers others c.in-Some.text.now q (alike.1 ∙ off) (alike.0 ∙ said) has),
       subst (λ (o : Option Text). TellsPart (codes "quota") o c.bad_value.result) (sym said) c.bad_value.ensures,
     )
+
+pub flag-requires : goal.flag-requires
+flag-requires c = (4, omega arith, refl)
+
+pub bad_value-requires : goal.bad_value-requires
+bad_value-requires c = (5, omega arith, refl)
