@@ -1,3 +1,4 @@
+pub mod FaultWords
 pub mod Flaw
 pub mod Reading
 pub mod Walk

@@ -1,5 +1,6 @@
 //! A fault of a configuration: what is wrong, and where.
-ghost use Rattle.std.specs.Prelude.{◌≡◌, ◌⊎◌, ◌↔◌, IsTrue};
+ghost use Rattle.std.specs.{Fmt.WritesOnOk, Prelude.{◌≡◌, ◌⊎◌, ◌↔◌, IsTrue, map}};
+ghost use Rattle.conf_tree.specs.{FaultWords.way_words, Flaw.place_of};
 
 use crate::{FaultKind, Path, Step};
 use std::alloc::Global;
@@ -78,17 +79,29 @@ impl ConfFault {
 
 /// The steps joined by `/`, and then what is wrong. Without steps, what is wrong alone.
 impl fmt::Display for ConfFault {
+    ghost use Rattle.std.specs.Prelude.{Some};
+    ghost use Rattle.conf_tree.specs.{Flaw.flaw_of, FaultWords.flaw_words};
+
+    ghost output = { λ fault. Some (flaw_words (flaw_of fault)) };
+
     fn fmt<W: fmt::Write>(&self, f: &mut fmt::Formatter<W>) -> fmt::Result {
-        let mut separator = "";
-        for step in self.path.as_slice() {
-            write!(f, "{separator}{step}")?;
-            separator = "/";
-        }
-        if !self.path.is_empty() {
-            f.write_str(": ")?;
-        }
+        write_way(self.path.as_slice(), f)?;
         write!(f, "{}", self.kind)
     }
+}
+
+/// The steps joined by `/`, and `: ` behind them. Nothing of no steps.
+fn write_way<W: fmt::Write>(path: &[Step], f: &mut fmt::Formatter<W>) -> fmt::Result
+    ensures { WritesOnOk W.write_str_gives f.old result (way_words (map place_of path.now)) f.new }
+{
+    let Some((first, others)) = path.split_first() else {
+        return Ok(());
+    };
+    write!(f, "{first}")?;
+    for step in others {
+        write!(f, "/{step}")?;
+    }
+    f.write_str(": ")
 }
 
 impl std::error::Error for ConfFault {}
