@@ -1,2 +1,3 @@
 pub mod Adding
 pub mod ShownLemmas
+pub mod WantedLemmas

@@ -1,6 +1,6 @@
 -- The explanation of a configuration's fault: where it stands in the text, the way to it, what stands there, and what was expected. Whatever it
 -- shows of the configuration, it stays on one line.
-use Rattle.std.specs.Prelude.{◌≡◌, ◌⊎◌, List, [], ◌∷◌, ◌++◌, ℕ, Option, Some, None, MatchOption, ⊤, codes, string_bytes, decimal}
+use Rattle.std.specs.Prelude.{◌≡◌, ◌⊎◌, List, [], ◌∷◌, ◌++◌, ℕ, Option, Some, None, MatchOption, codes, string_bytes, decimal}
 use Rattle.std.specs.List.{flat_map}
 use Rattle.conf_tree.specs.declared.step.Step.{Step}
 use Rattle.conf_tree.specs.declared.step.Step.TheVariants.{Key, Index}
@@ -10,6 +10,7 @@ use Rattle.conf_tree.specs.declared.fault_kind.FaultKind.TheVariants.{NotJson, T
 use Rattle.conf_fault.specs.declared.line_column.LineColumn.{LineColumn}
 use Rattle.conf_fault.specs.LineColumn.{IsPlaceIn}
 use Rattle.conf_fault.specs.Shown.{cut, shown}
+use Rattle.conf_fault.specs.Wanted.{IsToldAndHinted}
 
 -- words of this kind are added
 abbrev pub Adds : (List ℕ → Type 0) → List ℕ → List ℕ → Type 0
@@ -72,9 +73,9 @@ fixed_words NoUuid = Some (codes "a UUID of the trace type, or with `auto` one f
 fixed_words TwoOrders = Some (codes "only one of `trace-byte-order` and `native-byte-order`")
 fixed_words _ = None
 
--- of the other kinds any words
-abbrev pub IsWanted : FaultKind → List ℕ → Type 0
-IsWanted kind words = MatchOption (fixed_words kind) ⊤ (λ said. words ≡ said)
+-- of the other kinds what is told of them, and behind it a hint or none
+abbrev pub IsWanted : ConfFault → List ℕ → Type 0
+IsWanted fault words = MatchOption (fixed_words fault.kind) (IsToldAndHinted fault words) (λ said. words ≡ said)
 
 -- ---- the whole
 
@@ -87,7 +88,7 @@ pub record IsPlaced (text : List ℕ) (fault : ConfFault) (said : List ℕ) : Ty
   pub lies : IsPlaceWords text place
   pub in_alias : IsAliasWords alias
   pub stands : IsStanding fault.kind standing
-  pub expects : IsWanted fault.kind wanted
+  pub expects : IsWanted fault wanted
   pub is : said ≡ place ++ path_words fault.path ++ alias ++ standing ++ codes ": expected " ++ wanted
 
 -- a hint where it looks like YAML

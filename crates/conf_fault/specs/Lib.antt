@@ -1,3 +1,5 @@
+pub mod Expected
 pub mod Explanation
 pub mod LineColumn
 pub mod Shown
+pub mod Wanted

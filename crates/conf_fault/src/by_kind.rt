@@ -1,8 +1,10 @@
 //! What was expected, by the kind of a fault.
 
-ghost use Rattle.std.specs.Prelude.{◌≡◌, IfOk, string_bytes};
-ghost use Rattle.std.specs.Option.{option_copied};
-ghost use Rattle.conf_fault.specs.Explanation.{IsWanted, fixed_words, name_words};
+ghost use Rattle.std.specs.Prelude.{◌≡◌, ◌++◌, IfOk, OnOk, map, string_bytes};
+ghost use Rattle.std.specs.Option.{option_and_then, option_copied};
+ghost use Rattle.conf_table.specs.Table.{entries_of};
+ghost use Rattle.conf_fault.specs.Explanation.{Adds, IsWanted, fixed_words, name_words};
+ghost use Rattle.conf_fault.specs.Wanted.{IsChoice, IsHint, IsInRange, IsKnownName, IsMissingHint, IsOneOf, IsTold, IsToldAndHinted, IsToldOfKind, alias_thing, can_be_whole, end_name as name_of_end, end_of, limit_words, most_words, named_text, names_of, range_text};
 
 use crate::expected::{classes_at, push_expected, push_nearest, push_words};
 use crate::found::Found;
@@ -15,44 +17,73 @@ use std::alloc::AllocError;
 
 /// What was expected where a fault stands.
 pub(crate) fn wanted_words(found: &Found<'_>, fault: &ConfFault) -> Result<String, AllocError>
-    ensures { IfOk result (λ words. IsWanted fault.now.kind (string_bytes words)) }
+    ensures { IfOk result (λ words. IsWanted fault.now (string_bytes words)) }
 {
-    if let Some(words) = kind_words(fault.kind).1 {
-        return String::from_str(found.source.alloc, words);
+    match kind_words(fault.kind).1 {
+        Some(words) => String::from_str(found.source.alloc, words),
+        None => told_words(found, fault),
     }
+}
+
+/// What was expected by the kinds that are not the same everywhere, and a hint.
+fn told_words(found: &Found<'_>, fault: &ConfFault) -> Result<String, AllocError>
+    ensures { IfOk result (λ words. IsToldAndHinted fault.now (string_bytes words)) }
+{
     let mut words = String::new(found.source.alloc);
     push_wanted(&mut words, found, fault)?;
     Ok(words)
 }
 
-/// Adds what was expected by the kinds that are not the same everywhere.
-fn push_wanted(said: &mut String, found: &Found<'_>, fault: &ConfFault) -> Result<(), AllocError> {
-    let path = fault.path.as_slice();
-    let name = match path.last() {
+fn push_wanted(said: &mut String, found: &Found<'_>, fault: &ConfFault) -> Result<(), AllocError>
+    ensures { OnOk result (Adds (IsToldAndHinted fault.now) (string_bytes said.old) (string_bytes said.new)) }
+{
+    let name = end_name(fault.path.as_slice());
+    push_told(said, found, fault, name)?;
+    push_hint(said, found, fault, name)
+}
+
+/// The name of the last step.
+fn end_name(path: &[Step]) -> &str
+    ensures { result.now ≡ name_of_end path.now }
+{
+    match path.last() {
         Some(Step::Key(name)) => name.as_str(),
         _ => "",
-    };
-    match (
-        fault.kind,
-        found.content,
-        words_here(fault.kind, name, found.content),
-    ) {
-        (_, _, Some(words)) => said.push_str(words)?,
-        (Unknown, _, _) => push_properties(said, found, name)?,
-        (OutOfRange, Some(Content::Word(choice)), _) => push_choice(said, found, words_in(choice))?,
-        (OutOfRange, Some(Content::Class), _) => {
-            push_choice(said, found, classes_at(found)?.as_slice())?
-        }
-        (NoSuchAlias, Some(Content::Level { .. }), _) => {
-            push_known(said, found, "log level alias", "$log-level-aliases")?
-        }
-        (NoSuchAlias, _, _) => push_known(said, found, "field type alias", "$field-type-aliases")?,
-        (NoClock, _, _) => push_known(said, found, "clock type", "clock-types")?,
-        (FieldTooSmall, _, _) => push_largest_number(found.source, said, path)?,
-        (Limit, Some(Content::At(place)), _) => push_limit(said, found, place)?,
-        _ => push_expected(said, found)?,
     }
-    push_hint(said, found, fault, name)
+}
+
+fn push_told(
+    said: &mut String,
+    found: &Found<'_>,
+    fault: &ConfFault,
+    name: &str,
+) -> Result<(), AllocError>
+    requires { name.now ≡ name_of_end fault.now.path }
+    ensures { OnOk result (Adds (IsTold fault.now (end_of found.now)) (string_bytes said.old) (string_bytes said.new)) }
+{
+    match words_here(fault.kind, name, found.content) {
+        Some(words) => said.push_str(words),
+        None => push_told_of_kind(said, found, fault, name),
+    }
+}
+
+fn push_told_of_kind(
+    said: &mut String,
+    found: &Found<'_>,
+    fault: &ConfFault,
+    name: &str,
+) -> Result<(), AllocError>
+    ensures { OnOk result (Adds (IsToldOfKind fault.now.kind (end_of found.now)) (string_bytes said.old) (string_bytes said.new)) }
+{
+    match fault.kind {
+        Unknown => push_properties(said, found, name),
+        OutOfRange => push_in_range(said, found),
+        NoSuchAlias => push_known_alias(said, found),
+        NoClock => push_known(said, found, "clock type", "clock-types"),
+        FieldTooSmall => push_largest_number(found.source, said, fault.path.as_slice()),
+        Limit => push_limit(said, found),
+        _ => push_expected(said, found),
+    }
 }
 
 /// What is said of a name where a fault of this kind is the name's and not its value's, and what is expected where that is the same everywhere.
@@ -106,50 +137,79 @@ pub(crate) fn kind_words(kind: FaultKind) -> (Option<&'static str>, Option<&'sta
 }
 
 /// What is expected by the kinds of which the property's name or what the table says of it tells all.
-fn words_here(kind: FaultKind, name: &str, content: Option<Content>) -> Option<&'static str> {
-    match (kind, name, content) {
-        (Missing, "trace-byte-order", _) => Some(
+#[tactic(auto, unfolding(crate::specs::Wanted::named_text))]
+fn words_here(kind: FaultKind, name: &str, content: Option<Content>) -> Option<&'static str>
+    ensures { option_copied result ≡ named_text kind name.now content }
+{
+    match kind {
+        Missing if name == "trace-byte-order" => Some(
             "just one of `trace-byte-order` and `native-byte-order`",
         ),
-        (BadName, _, _) => Some("a letter or `_`, then letters, digits or `_`, 255 bytes at most"),
-        (NoClock, "$default-clock-type-name", _) => None,
-        (NoClock, _, _) => Some(
+        BadName => Some("a letter or `_`, then letters, digits or `_`, 255 bytes at most"),
+        NoClock if name != "$default-clock-type-name" => Some(
             "a `$default-clock-type-name` in this data stream type, or the feature off",
         ),
-        (TimestampSize, "timestamp-field-type", _) => Some(
+        TimestampSize if name == "timestamp-field-type" => Some(
             "a field of 8 to 64 bits, fewer than 64 only beside the packet's beginning timestamp, or the feature off",
         ),
-        (TimestampSize, _, _) => Some("a field of 64 bits, or the feature off"),
-        (OutOfRange, "$is-default", _) => Some("true at one data stream type at most"),
-        (OutOfRange, _, Some(Content::At(Place::Mappings))) => Some("one label at least"),
-        (OutOfRange, _, Some(Content::At(Place::Ranges))) => Some(
+        TimestampSize => Some("a field of 64 bits, or the feature off"),
+        OutOfRange if name == "$is-default" => Some("true at one data stream type at most"),
+        OutOfRange => range_words(content),
+        NotWhole if !is_whole(content) => Some(
+            "a whole number of 64 bits, without fraction or exponent",
+        ),
+        _ => None,
+    }
+}
+
+/// What is expected at the places where what is out of range is no number and no word.
+#[tactic(auto, unfolding(crate::specs::Wanted::range_text))]
+fn range_words(content: Option<Content>) -> Option<&'static str>
+    ensures { option_copied result ≡ range_text content }
+{
+    match content? {
+        Content::At(Place::Mappings) => Some("one label at least"),
+        Content::At(Place::Ranges) => Some(
             "one range at least, under a label without control characters but newline and tab",
         ),
-        (OutOfRange, _, Some(Content::At(Place::Range))) => Some(
-            "a range inside the integer's numbers, the lowest first",
-        ),
-        (OutOfRange, _, Some(Content::At(Place::DynamicElementType))) => Some(
-            "an element with bits",
-        ),
-        (NotWhole, _, Some(content)) if is_whole(content) => None,
-        (NotWhole, _, _) => Some("a whole number of 64 bits, without fraction or exponent"),
+        Content::At(Place::Range) => Some("a range inside the integer's numbers, the lowest first"),
+        Content::At(Place::DynamicElementType) => Some("an element with bits"),
         _ => None,
     }
 }
 
 /// Whether a value of this content can be a whole number.
-fn is_whole(content: Content) -> bool {
+#[tactic(auto, unfolding(crate::specs::Wanted::can_be_whole))]
+fn is_whole(content: Option<Content>) -> bool
+    ensures { result ≡ can_be_whole content }
+{
     matches!(
         content,
-        Content::Whole { .. }
-            | Content::PowerOfTwo { .. }
-            | Content::Level { .. }
-            | Content::WholeOrText { .. }
+        Some(
+            Content::Whole { .. }
+                | Content::PowerOfTwo { .. }
+                | Content::Level { .. }
+                | Content::WholeOrText { .. }
+        )
     )
 }
 
+/// Adds what was expected where a value is out of range.
+#[tactic(auto, unfolding(crate::specs::Wanted::IsInRange))]
+fn push_in_range(said: &mut String, found: &Found<'_>) -> Result<(), AllocError>
+    ensures { OnOk result (Adds (IsInRange found.now.content found.now.position) (string_bytes said.old) (string_bytes said.new)) }
+{
+    match found.content {
+        Some(Content::Word(choice)) => push_choice(said, found, words_in(choice)),
+        Some(Content::Class) => push_choice(said, found, classes_at(found)?.as_slice()),
+        _ => push_expected(said, found),
+    }
+}
+
 /// Adds the words allowed, and the one most like what stands there.
-fn push_choice(said: &mut String, found: &Found<'_>, words: &[&str]) -> Result<(), AllocError> {
+fn push_choice(said: &mut String, found: &Found<'_>, words: &[&str]) -> Result<(), AllocError>
+    ensures { OnOk result (Adds (IsChoice (map (λ w. w.now) words.now)) (string_bytes said.old) (string_bytes said.new)) }
+{
     push_words(said, words)?;
     let Some(word) = found.source.text_of(found.layer().at)? else {
         return Ok(());
@@ -162,7 +222,9 @@ fn push_choice(said: &mut String, found: &Found<'_>, words: &[&str]) -> Result<(
 }
 
 /// Adds the properties of an object, with the one most like `name`.
-fn push_properties(said: &mut String, found: &Found<'_>, name: &str) -> Result<(), AllocError> {
+fn push_properties(said: &mut String, found: &Found<'_>, name: &str) -> Result<(), AllocError>
+    ensures { OnOk result (Adds (IsOneOf (names_of found.now.holder)) (string_bytes said.old) (string_bytes said.new)) }
+{
     let names: Vec<&str> = rows(found.holder)
         .iter()
         .map(|(name, _, _)| *name)
@@ -171,7 +233,30 @@ fn push_properties(said: &mut String, found: &Found<'_>, name: &str) -> Result<(
     push_nearest(said, name, names.as_slice())
 }
 
-fn push_limit(said: &mut String, found: &Found<'_>, place: Place) -> Result<(), AllocError> {
+fn push_known_alias(said: &mut String, found: &Found<'_>) -> Result<(), AllocError>
+    ensures { OnOk result (Adds (IsKnownName (alias_thing found.now.content)) (string_bytes said.old) (string_bytes said.new)) }
+{
+    match found.content {
+        Some(Content::Level { .. }) => {
+            push_known(said, found, "log level alias", "$log-level-aliases")
+        }
+        _ => push_known(said, found, "field type alias", "$field-type-aliases"),
+    }
+}
+
+#[tactic(auto, unfolding(crate::specs::Wanted::limit_words))]
+fn push_limit(said: &mut String, found: &Found<'_>) -> Result<(), AllocError>
+    ensures { OnOk result (string_bytes said.new ≡ string_bytes said.old ++ limit_words found.now.content found.now.position) }
+{
+    match found.content {
+        Some(Content::At(place)) => push_most(said, found, place),
+        _ => push_expected(said, found),
+    }
+}
+
+fn push_most(said: &mut String, found: &Found<'_>, place: Place) -> Result<(), AllocError>
+    ensures { OnOk result (string_bytes said.new ≡ string_bytes said.old ++ most_words (option_and_then (λ e. e.most) (entries_of place))) }
+{
     match entries(place).and_then(|entries| entries.most) {
         Some(most) => said.push_str(format!(in found.source.alloc;
             "{most} entries at most"
@@ -188,20 +273,37 @@ fn push_hint(
     found: &Found<'_>,
     fault: &ConfFault,
     name: &str,
-) -> Result<(), AllocError> {
-    let is_outermost = fault.path.as_slice().len() == 1;
+) -> Result<(), AllocError>
+    requires { name.now ≡ name_of_end fault.now.path }
+    ensures { OnOk result (Adds (IsHint fault.now.kind fault.now.path) (string_bytes said.old) (string_bytes said.new)) }
+{
     match fault.kind {
-        Missing if is_outermost && is_of_barectf_2(found.source)? => said.push_str(
-            "; this looks like a configuration of barectf 2, and ctftrace reads those of barectf 3",
-        ),
-        Unknown if name == "$include" => said.push_str(
-            "; tools/yaml_to_json puts in what `$include` names",
-        ),
-        BadName if name.as_bytes().contains(&b'-') => said.push_str(
-            "; a hyphen stands in no name, `_` does",
-        ),
+        Missing => push_missing_hint(said, found, fault.path.as_slice()),
+        Unknown => {
+            if name != "$include" {
+                return Ok(());
+            }
+            said.push_str("; tools/yaml_to_json puts in what `$include` names")
+        }
+        BadName => {
+            if !name.as_bytes().contains(&b'-') {
+                return Ok(());
+            }
+            said.push_str("; a hyphen stands in no name, `_` does")
+        }
         _ => Ok(()),
     }
+}
+
+fn push_missing_hint(said: &mut String, found: &Found<'_>, path: &[Step]) -> Result<(), AllocError>
+    ensures { OnOk result (Adds (IsMissingHint path.now) (string_bytes said.old) (string_bytes said.new)) }
+{
+    if path.len() == 1 && is_of_barectf_2(found.source)? {
+        return said.push_str(
+            "; this looks like a configuration of barectf 2, and ctftrace reads those of barectf 3",
+        );
+    }
+    Ok(())
 }
 
 /// Whether the configuration has a property of barectf 2.

@@ -1,11 +1,19 @@
 //! What the table expects of a value, in words, and the word among those allowed that is most like one that is not.
 
+ghost use Rattle.std.specs.Prelude.{◌≡◌, ◌++◌, IfOk, OnOk, map, string_bytes};
+ghost use Rattle.conf_fault.specs.Explanation.{Adds};
+ghost use Rattle.conf_fault.specs.Expected.{classes_at as words_of_classes_at, described as words_of_place, expected_words, holder_words as words_of_holder, listed, range_words, text_words};
+ghost use Rattle.conf_fault.specs.Wanted.{IsNearest};
+
 use crate::found::Found;
-use conf_table::{Content, Keys, Place, class_words, entries, words_in};
+use conf_table::{Content, Entries, Keys, Place, class_words, entries, words_in};
 use std::alloc::{AllocError, Global};
 
 /// Adds what a value is where the path leads.
-pub(crate) fn push_expected(said: &mut String, found: &Found<'_>) -> Result<(), AllocError> {
+#[tactic(auto, unfolding(crate::specs::Expected::content_words))]
+pub(crate) fn push_expected(said: &mut String, found: &Found<'_>) -> Result<(), AllocError>
+    ensures { OnOk result (string_bytes said.new ≡ string_bytes said.old ++ expected_words found.now.content found.now.position) }
+{
     let alloc = found.source.alloc;
     let Some(content) = found.content else {
         return said.push_str("what this place allows");
@@ -40,36 +48,42 @@ pub(crate) fn push_expected(said: &mut String, found: &Found<'_>) -> Result<(), 
     }
 }
 
-fn push_range(alloc: Global, said: &mut String, low: i128, high: i128) -> Result<(), AllocError> {
+#[tactic(auto, unfolding(crate::specs::Expected::range_words))]
+fn push_range(alloc: Global, said: &mut String, low: i128, high: i128) -> Result<(), AllocError>
+    ensures { OnOk result (string_bytes said.new ≡ string_bytes said.old ++ range_words low high) }
+{
     said.push_str(format!(in alloc; "a whole number from {low} to {high}")?.as_str())
 }
 
-fn push_text(alloc: Global, said: &mut String, most_bytes: u64) -> Result<(), AllocError> {
+#[tactic(auto, unfolding(crate::specs::Expected::text_words))]
+fn push_text(alloc: Global, said: &mut String, most_bytes: u64) -> Result<(), AllocError>
+    ensures { OnOk result (string_bytes said.new ≡ string_bytes said.old ++ text_words most_bytes) }
+{
     said.push_str(format!(in alloc;
         "a text of {most_bytes} bytes at most, without control characters but newline and tab"
     )?.as_str())
 }
 
 /// Adds words, each as it is written.
-pub(crate) fn push_words(said: &mut String, words: &[&str]) -> Result<(), AllocError> {
-    if words.is_empty() {
+pub(crate) fn push_words(said: &mut String, words: &[&str]) -> Result<(), AllocError>
+    ensures { OnOk result (string_bytes said.new ≡ string_bytes said.old ++ listed (map (λ w. w.now) words.now)) }
+{
+    let Some((first, others)) = words.split_first() else {
         return said.push_str("none");
-    }
-    let mut before = "`";
-    for word in words {
-        said.push_str(before)?;
+    };
+    said.push_str("`")?;
+    said.push_str(*first)?;
+    for word in others {
+        said.push_str("`, `")?;
         said.push_str(*word)?;
-        before = "`, `";
     }
     said.push('`')
 }
 
 /// Adds the word most like `word`, where more than half of it is alike.
-pub(crate) fn push_nearest(
-    said: &mut String,
-    word: &str,
-    words: &[&str],
-) -> Result<(), AllocError> {
+pub(crate) fn push_nearest(said: &mut String, word: &str, words: &[&str]) -> Result<(), AllocError>
+    ensures { OnOk result (Adds (IsNearest (map (λ w. w.now) words.now)) (string_bytes said.old) (string_bytes said.new)) }
+{
     let mut nearest = "";
     let mut most = word.len() / 2;
     for other in words {
@@ -97,7 +111,9 @@ fn likeness(word: &[u8], other: &[u8]) -> usize {
 }
 
 /// The words of the classes that may stand where the path leads.
-pub(crate) fn classes_at(found: &Found<'_>) -> Result<Vec<&'static str>, AllocError> {
+pub(crate) fn classes_at(found: &Found<'_>) -> Result<Vec<&'static str>, AllocError>
+    ensures { IfOk result (λ words. map (λ w. w.now) words.items ≡ words_of_classes_at found.now.position) }
+{
     let position = found.position;
     let classes = class_words()
         .iter()
@@ -106,7 +122,10 @@ pub(crate) fn classes_at(found: &Found<'_>) -> Result<Vec<&'static str>, AllocEr
 }
 
 /// What stands at a place.
-fn described(place: Place) -> &'static str {
+#[tactic(auto, unfolding(crate::specs::Expected::described))]
+fn described(place: Place) -> &'static str
+    ensures { result.now ≡ words_of_place place }
+{
     match place {
         Place::StructureType => "a structure field type, or the name of an alias of one",
         Place::FieldType => "a field type, or the name of an alias",
@@ -123,7 +142,16 @@ fn described(place: Place) -> &'static str {
         Place::Range => "a whole number, or a list of the lowest and the highest of a range",
         Place::Scalar => "a value",
         Place::Ignored => "any value",
-        _ if entries(place).is_some_and(|entries| entries.keys == Keys::Index) => "a list",
+        _ => holder_words(entries(place)),
+    }
+}
+
+/// A list, or a map or another object.
+fn holder_words(entries: Option<Entries>) -> &'static str
+    ensures { result.now ≡ words_of_holder entries }
+{
+    match entries {
+        Some(entries) if entries.keys == Keys::Index => "a list",
         _ => "an object",
     }
 }

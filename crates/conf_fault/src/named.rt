@@ -1,5 +1,9 @@
 //! What a configuration has under the names that a fault is about: aliases, clock types, and the types that have numbers.
 
+ghost use Rattle.std.specs.Prelude.{OnOk, string_bytes};
+ghost use Rattle.conf_fault.specs.Explanation.{Adds};
+ghost use Rattle.conf_fault.specs.Wanted.{IsKnownName, IsRoom};
+
 use crate::expected::{push_nearest, push_words};
 use crate::found::Found;
 use crate::source::Source;
@@ -13,7 +17,9 @@ pub(crate) fn push_known(
     found: &Found<'_>,
     thing: &str,
     map: &str,
-) -> Result<(), AllocError> {
+) -> Result<(), AllocError>
+    ensures { OnOk result (Adds (IsKnownName thing.now) (string_bytes said.old) (string_bytes said.new)) }
+{
     let source = found.source;
     let names = match source.property(&[map])? {
         Some(map) => source.names(map)?,
@@ -37,7 +43,9 @@ pub(crate) fn push_largest_number(
     source: Source<'_>,
     said: &mut String,
     path: &[Step],
-) -> Result<(), AllocError> {
+) -> Result<(), AllocError>
+    ensures { OnOk result (Adds IsRoom (string_bytes said.old) (string_bytes said.new)) }
+{
     let types = match path {
         [_, _, Step::Key(map), Step::Key(stream), ..] if map.as_str() == "data-stream-types" => {
             source.property(&[map.as_str(), stream.as_str(), "event-record-types"])?

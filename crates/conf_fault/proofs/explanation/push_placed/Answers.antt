@@ -25,6 +25,6 @@ returns c =
       lies = (c.line_column.result, c.line_column.ensures.lies, refl);
       in_alias = alias.1;
       stands = standing.1;
-      expects = subst (IsWanted fault.kind) (sym c.as_str.ensures.value) c.in_ok-wanted_words.ensures;
+      expects = subst (IsWanted fault) (sym c.as_str.ensures.value) c.in_ok-wanted_words.ensures;
       is = refl;
     })

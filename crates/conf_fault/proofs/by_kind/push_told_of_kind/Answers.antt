@@ -1,0 +1,36 @@
+use Rattle.std.proofs.Common.{◌≡◌, ℕ, List, refl}
+use Rattle.conf_fault.specs.Wanted.{IsToldOfKind, end_of, limit_words}
+use Rattle.conf_fault.proofs.WantedLemmas.{adds_same, told_of_others}
+use Rattle.conf_fault.proofs.by_kind.push_told_of_kind.Goals as goal
+
+pub returns-in-Unknown : goal.returns-in-Unknown
+unfolding IsToldOfKind
+returns-in-Unknown c = rw c.in-Unknown.is c.push_properties.ensures
+
+pub returns-in-OutOfRange : goal.returns-in-OutOfRange
+unfolding IsToldOfKind
+returns-in-OutOfRange c = rw c.in-OutOfRange.is c.push_in_range.ensures
+
+pub returns-in-NoSuchAlias : goal.returns-in-NoSuchAlias
+unfolding IsToldOfKind
+returns-in-NoSuchAlias c = rw c.in-NoSuchAlias.is c.push_known_alias.ensures
+
+pub returns-in-NoClock : goal.returns-in-NoClock
+unfolding IsToldOfKind
+returns-in-NoClock c = rw c.in-NoClock.is c.push_known.ensures
+
+pub returns-in-FieldTooSmall : goal.returns-in-FieldTooSmall
+unfolding IsToldOfKind
+returns-in-FieldTooSmall c = rw c.in-FieldTooSmall.is c.push_largest_number.ensures
+
+pub returns-in-Limit : goal.returns-in-Limit
+unfolding IsToldOfKind
+returns-in-Limit c =
+    let found = c.args.found.now in
+    rw c.in-Limit.is (adds_same c.push_limit.result (λ (said : List ℕ). said ≡ limit_words found.content found.position) _ _ _ refl c.push_limit.ensures)
+
+pub returns-in_default : goal.returns-in_default
+returns-in_default c =
+    adds_same c.push_expected.result (IsToldOfKind c.args.fault.now.kind (end_of c.args.found.now)) _ _ _
+    (told_of_others _ _ _ c.in_default.not-Unknown c.in_default.not-OutOfRange c.in_default.not-NoSuchAlias c.in_default.not-NoClock c.in_default.not-FieldTooSmall c.in_default.not-Limit refl)
+    c.push_expected.ensures

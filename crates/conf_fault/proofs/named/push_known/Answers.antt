@@ -1,0 +1,24 @@
+use Rattle.std.proofs.Common.{◌≡◌, ◌∙◌, ◌++◌, [], ap, append-nil, arith, inl, refl, string_bytes, subst, sym}
+use Rattle.std.proofs.lemmas.Result.{on_ok_weaker}
+use Rattle.conf_fault.specs.Explanation.{Adds}
+use Rattle.conf_fault.specs.Wanted.{IsNearest}
+use Rattle.conf_fault.proofs.WantedLemmas.{known, texts}
+use Rattle.conf_fault.proofs.named.push_known.Goals as goal
+
+pub returns-in-Some-2 : goal.returns-in-Some-2
+returns-in-Some-2 c =
+    let opened = c.in_ok-push_str.ensures.bytes ∙ ap (λ z. string_bytes c.args.said.now ++ z) (c.as_str.ensures.value ∙ c.in_ok-format.ensures.ok) in
+    let closed = c.in_ok-push.ensures.bytes ∙ ap (λ z. string_bytes c.push_words.new.said ++ z) (c.in_ok-push.ensures.ascii (omega arith)) in
+    let mid = string_bytes c.push.new.self in
+    let now = string_bytes c.push_nearest.new.said in
+    on_ok_weaker c.push_nearest.result
+    (λ (near : Adds (IsNearest (texts c.as_slice-in-Some-2.result.now)) mid now).
+    known _ _ _ _ _ _ (texts c.as_slice.result.now) opened c.in_ok-push_words.ensures closed
+    (subst (λ words. Adds (IsNearest (texts words)) mid now) (c.as_slice-in-Some-2.ensures.value ∙ sym c.as_slice.ensures.value) near))
+    c.push_nearest.ensures
+
+pub returns : goal.returns
+returns c =
+    let opened = c.in_ok-push_str.ensures.bytes ∙ ap (λ z. string_bytes c.args.said.now ++ z) (c.as_str.ensures.value ∙ c.in_ok-format.ensures.ok) in
+    let closed = c.in_ok-push.ensures.bytes ∙ ap (λ z. string_bytes c.push_words.new.said ++ z) (c.in_ok-push.ensures.ascii (omega arith)) in
+    known _ _ _ _ _ _ (texts c.as_slice.result.now) opened c.in_ok-push_words.ensures closed ([], inl refl, sym (append-nil (string_bytes c.push.new.self)))

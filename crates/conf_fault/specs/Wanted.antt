@@ -1,0 +1,142 @@
+-- What was expected where a fault stands, by the kind of the fault: what is told of it, and behind that a hint or none. What the way over the text
+-- comes to is not said here, so each of these holds of some end of it.
+use Rattle.std.specs.Prelude.{◌≡◌, ◌⊎◌, ℕ, ◌-◌, List, [], ◌∷◌, ◌++◌, ◌==◌, Option, None, Some, MatchOption, Contains, Bool, true, false, length, map, slice_get, if◌then◌else◌, codes, string_bytes, decimal}
+use Rattle.std.specs.Option.{option_and_then}
+use Rattle.std.specs.List.{list_any}
+use Rattle.std.specs.Str.{bytes_eq}
+use Rattle.conf_tree.specs.declared.step.Step.{Step}
+use Rattle.conf_tree.specs.declared.step.Step.TheVariants.{Key}
+use Rattle.conf_tree.specs.declared.fault.ConfFault.{ConfFault}
+use Rattle.conf_tree.specs.declared.fault_kind.FaultKind.{FaultKind}
+use Rattle.conf_tree.specs.declared.fault_kind.FaultKind.TheVariants as kinds
+use Rattle.conf_table.specs.declared.place.Place.{Place}
+use Rattle.conf_table.specs.declared.place.Place.TheVariants as places
+use Rattle.conf_table.specs.declared.row.Content.{Content}
+use Rattle.conf_table.specs.declared.row.Content.TheVariants as contents
+use Rattle.conf_table.specs.Table.{entries_of, rows_of}
+use Rattle.conf_table.specs.Words.{words_of}
+use Rattle.conf_fault.specs.declared.found.Found.{Found}
+use Rattle.conf_fault.specs.Expected.{classes_at, expected_words, listed}
+
+-- where the way ends: what the table says of a value there, the position at which it stands, and what holds it
+pub record PathEnd : Type 0 where
+  pub content : Option Content
+  pub position : Place
+  pub holder : Place
+
+abbrev pub end_of : Found → PathEnd
+end_of found = record { content = found.content; position = found.position; holder = found.holder }
+
+-- the name of the last step; empty where that is an index, or where there is no step
+abbrev pub step_name : Option Step → List ℕ
+step_name (Some (Key name)) = string_bytes name
+step_name _ = []
+
+abbrev pub end_name : List Step → List ℕ
+end_name path = step_name (slice_get path (length path - 1))
+
+-- ---- the kinds of which the property's name, or what the table says of it, tells all
+
+unfoldable pub can_be_whole : Option Content → Bool
+can_be_whole (Some (contents.Whole low high)) = true
+can_be_whole (Some (contents.PowerOfTwo high)) = true
+can_be_whole (Some (contents.Level high)) = true
+can_be_whole (Some (contents.WholeOrText low high most_bytes)) = true
+can_be_whole _ = false
+
+-- of a value out of range at a place
+unfoldable pub range_text : Option Content → Option (List ℕ)
+range_text (Some (contents.At places.Mappings)) = Some (codes "one label at least")
+range_text (Some (contents.At places.Ranges)) = Some (codes "one range at least, under a label without control characters but newline and tab")
+range_text (Some (contents.At places.Range)) = Some (codes "a range inside the integer's numbers, the lowest first")
+range_text (Some (contents.At places.DynamicElementType)) = Some (codes "an element with bits")
+range_text _ = None
+
+unfoldable pub named_text : FaultKind → List ℕ → Option Content → Option (List ℕ)
+named_text kinds.Missing name content = if bytes_eq name (codes "trace-byte-order") then Some (codes "just one of `trace-byte-order` and `native-byte-order`") else None
+named_text kinds.BadName name content = Some (codes "a letter or `_`, then letters, digits or `_`, 255 bytes at most")
+named_text kinds.NoClock name content = if bytes_eq name (codes "$default-clock-type-name") then None
+    else Some (codes "a `$default-clock-type-name` in this data stream type, or the feature off")
+named_text kinds.TimestampSize name content = Some (if bytes_eq name (codes "timestamp-field-type")
+    then codes "a field of 8 to 64 bits, fewer than 64 only beside the packet's beginning timestamp, or the feature off"
+    else codes "a field of 64 bits, or the feature off")
+named_text kinds.OutOfRange name content = if bytes_eq name (codes "$is-default") then Some (codes "true at one data stream type at most") else range_text content
+named_text kinds.NotWhole name content = if can_be_whole content then None else Some (codes "a whole number of 64 bits, without fraction or exponent")
+named_text _ name content = None
+
+-- ---- the others
+
+-- the nearest of some words, or none
+abbrev pub IsNearest : List (List ℕ) → List ℕ → Type 0
+IsNearest words said = (said ≡ []) ⊎ ((word : List ℕ) × Contains words word × (said ≡ codes "; the nearest is `" ++ word ++ codes "`"))
+
+-- all of some words, and the nearest of them or none
+abbrev pub IsOneOf : List (List ℕ) → List ℕ → Type 0
+IsOneOf words said = (nearest : List ℕ) × IsNearest words nearest × (said ≡ listed words ++ nearest)
+
+-- the same of a value out of range, which may be a real number
+abbrev pub IsChoice : List (List ℕ) → List ℕ → Type 0
+IsChoice words said = IsOneOf words said ⊎ ((told : List ℕ) × IsOneOf words told × (said ≡ told ++ codes "; there are no real numbers"))
+
+unfoldable pub IsInRange : Option Content → Place → List ℕ → Type 0
+IsInRange (Some (contents.Word choice)) position said = IsChoice (words_of choice) said
+IsInRange (Some contents.Class) position said = IsChoice (classes_at position) said
+IsInRange content position said = said ≡ expected_words content position
+
+-- the name of a thing, with those that there are, and the nearest of them or none
+abbrev pub IsKnownName : List ℕ → List ℕ → Type 0
+IsKnownName thing said = (names : List (List ℕ)) × (nearest : List ℕ) × IsNearest names nearest
+    × (said ≡ codes "the name of a " ++ (thing ++ codes " (there are ") ++ listed names ++ codes ")" ++ nearest)
+
+abbrev pub alias_thing : Option Content → List ℕ
+alias_thing (Some (contents.Level high)) = codes "log level alias"
+alias_thing _ = codes "field type alias"
+
+abbrev pub IsRoom : List ℕ → Type 0
+IsRoom said = (said ≡ codes "room for the largest number that it must hold") ⊎ ((largest : ℕ) × (said ≡ codes "room for the number " ++ decimal largest))
+
+-- how many entries there can be at a place, or, where the table sets no limit there, how much a configuration can hold
+abbrev pub most_words : Option ℕ → List ℕ
+most_words (Some most) = decimal most ++ codes " entries at most"
+most_words None = codes "at most 8 arrays in one another, 1048576 elements, and 4096 values with what is inherited"
+
+unfoldable pub limit_words : Option Content → Place → List ℕ
+limit_words (Some (contents.At place)) position = most_words (option_and_then (λ e. e.most) (entries_of place))
+limit_words content position = expected_words content position
+
+-- the names of an object's rows
+abbrev pub names_of : Place → List (List ℕ)
+names_of holder = map (λ r. r.name) (rows_of holder)
+
+unfoldable pub IsToldOfKind : FaultKind → PathEnd → List ℕ → Type 0
+IsToldOfKind kinds.Unknown end said = IsOneOf (names_of end.holder) said
+IsToldOfKind kinds.OutOfRange end said = IsInRange end.content end.position said
+IsToldOfKind kinds.NoSuchAlias end said = IsKnownName (alias_thing end.content) said
+IsToldOfKind kinds.NoClock end said = IsKnownName (codes "clock type") said
+IsToldOfKind kinds.FieldTooSmall end said = IsRoom said
+IsToldOfKind kinds.Limit end said = said ≡ limit_words end.content end.position
+IsToldOfKind _ end said = said ≡ expected_words end.content end.position
+
+-- ---- a hint
+
+abbrev pub is_hyphen : ℕ → Bool
+is_hyphen b = b == 45
+
+-- of a property that is missing outermost perhaps
+abbrev pub IsMissingHint : List Step → List ℕ → Type 0
+IsMissingHint path hint = (hint ≡ []) ⊎ ((length path ≡ 1) × (hint ≡ codes "; this looks like a configuration of barectf 2, and ctftrace reads those of barectf 3"))
+
+unfoldable pub IsHint : FaultKind → List Step → List ℕ → Type 0
+IsHint kinds.Missing path hint = IsMissingHint path hint
+IsHint kinds.Unknown path hint = hint ≡ (if bytes_eq (end_name path) (codes "$include") then codes "; tools/yaml_to_json puts in what `$include` names" else [])
+IsHint kinds.BadName path hint = hint ≡ (if list_any is_hyphen (end_name path) then codes "; a hyphen stands in no name, `_` does" else [])
+IsHint _ path hint = hint ≡ []
+
+-- ---- the whole
+
+-- what is told of a fault: the text of its kind and its property's name, or what its kind tells where the way ends
+abbrev pub IsTold : ConfFault → PathEnd → List ℕ → Type 0
+IsTold fault end said = MatchOption (named_text fault.kind (end_name fault.path) end.content) (IsToldOfKind fault.kind end said) (λ text. said ≡ text)
+
+abbrev pub IsToldAndHinted : ConfFault → List ℕ → Type 0
+IsToldAndHinted fault said = (end : PathEnd) × (told : List ℕ) × (hint : List ℕ) × IsTold fault end told × IsHint fault.kind fault.path hint × (said ≡ told ++ hint)
