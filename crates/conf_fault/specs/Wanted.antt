@@ -1,6 +1,6 @@
--- What was expected where a fault stands, by the kind of the fault: what is told of it, and behind that a hint or none. What the way over the text
--- comes to is not said here, so each of these holds of some end of it.
-use Rattle.std.specs.Prelude.{◌≡◌, ◌⊎◌, ℕ, ◌-◌, List, [], ◌∷◌, ◌++◌, ◌==◌, Option, None, Some, MatchOption, Contains, Bool, true, false, length, map, slice_get, if◌then◌else◌, codes, string_bytes, decimal}
+-- What was expected where a fault stands, by the fault's kind: what is told of it, and behind that a hint or none. Kind and path are the fault's own;
+-- where in the table the way over the text ends is not said, so that what is told holds of some end.
+use Rattle.std.specs.Prelude.{◌≡◌, ◌⊎◌, ℕ, ◌-◌, List, [], ◌++◌, ◌==◌, Option, None, Some, MatchOption, Contains, Bool, true, false, length, map, slice_get, if◌then◌else◌, codes, string_bytes, decimal}
 use Rattle.std.specs.Option.{option_and_then}
 use Rattle.std.specs.List.{list_any}
 use Rattle.std.specs.Str.{bytes_eq}
@@ -37,6 +37,7 @@ end_name path = step_name (slice_get path (length path - 1))
 
 -- ---- the kinds of which the property's name, or what the table says of it, tells all
 
+-- a value of this content can be a whole number
 unfoldable pub can_be_whole : Option Content → Bool
 can_be_whole (Some (contents.Whole low high)) = true
 can_be_whole (Some (contents.PowerOfTwo high)) = true
@@ -52,6 +53,7 @@ range_text (Some (contents.At places.Range)) = Some (codes "a range inside the i
 range_text (Some (contents.At places.DynamicElementType)) = Some (codes "an element with bits")
 range_text _ = None
 
+-- the text of a kind, by the name of the last step
 unfoldable pub named_text : FaultKind → List ℕ → Option Content → Option (List ℕ)
 named_text kinds.Missing name content = if bytes_eq name (codes "trace-byte-order") then Some (codes "just one of `trace-byte-order` and `native-byte-order`") else None
 named_text kinds.BadName name content = Some (codes "a letter or `_`, then letters, digits or `_`, 255 bytes at most")
@@ -78,6 +80,7 @@ IsOneOf words said = (nearest : List ℕ) × IsNearest words nearest × (said �
 abbrev pub IsChoice : List (List ℕ) → List ℕ → Type 0
 IsChoice words said = IsOneOf words said ⊎ ((told : List ℕ) × IsOneOf words told × (said ≡ told ++ codes "; there are no real numbers"))
 
+-- of a value out of range: one of the words of its choice, or of the classes at its position, or what the table expects of it
 unfoldable pub IsInRange : Option Content → Place → List ℕ → Type 0
 IsInRange (Some (contents.Word choice)) position said = IsChoice (words_of choice) said
 IsInRange (Some contents.Class) position said = IsChoice (classes_at position) said
@@ -92,6 +95,7 @@ abbrev pub alias_thing : Option Content → List ℕ
 alias_thing (Some (contents.Level high)) = codes "log level alias"
 alias_thing _ = codes "field type alias"
 
+-- room in a field that is too small
 abbrev pub IsRoom : List ℕ → Type 0
 IsRoom said = (said ≡ codes "room for the largest number that it must hold") ⊎ ((largest : ℕ) × (said ≡ codes "room for the number " ++ decimal largest))
 
@@ -108,6 +112,7 @@ limit_words content position = expected_words content position
 abbrev pub names_of : Place → List (List ℕ)
 names_of holder = map (λ r. r.name) (rows_of holder)
 
+-- what is told of a kind where the way ends
 unfoldable pub IsToldOfKind : FaultKind → PathEnd → List ℕ → Type 0
 IsToldOfKind kinds.Unknown end said = IsOneOf (names_of end.holder) said
 IsToldOfKind kinds.OutOfRange end said = IsInRange end.content end.position said
@@ -122,10 +127,11 @@ IsToldOfKind _ end said = said ≡ expected_words end.content end.position
 abbrev pub is_hyphen : ℕ → Bool
 is_hyphen b = b == 45
 
--- of a property that is missing outermost perhaps
+-- of a property that is missing, perhaps, where it would be outermost
 abbrev pub IsMissingHint : List Step → List ℕ → Type 0
 IsMissingHint path hint = (hint ≡ []) ⊎ ((length path ≡ 1) × (hint ≡ codes "; this looks like a configuration of barectf 2, and ctftrace reads those of barectf 3"))
 
+-- a hint, by the kind and the name of the last step
 unfoldable pub IsHint : FaultKind → List Step → List ℕ → Type 0
 IsHint kinds.Missing path hint = IsMissingHint path hint
 IsHint kinds.Unknown path hint = hint ≡ (if bytes_eq (end_name path) (codes "$include") then codes "; tools/yaml_to_json puts in what `$include` names" else [])

@@ -1,4 +1,4 @@
-use Rattle.std.proofs.Common.{◌≡◌, ◌∙◌, ap, string_bytes}
+use Rattle.std.proofs.Common.{◌∙◌, ap, string_bytes}
 use Rattle.conf_fault.proofs.WantedLemmas.{choice, no_reals, one_of, texts}
 use Rattle.conf_fault.proofs.by_kind.push_choice.Goals.{then-eq+in_ok-push_str, else-eq}
 use Rattle.conf_fault.proofs.by_kind.push_choice.Goals as goal

@@ -1,11 +1,11 @@
-use Rattle.std.proofs.Common.{◌≡◌, ◌∙◌, ◌++◌, List, ℕ, ap, map, rules, string_bytes, subst, sym, tests}
+use Rattle.std.proofs.Common.{◌≡◌, ◌∙◌, ◌++◌, ap, map, rules, string_bytes, subst, tests}
 use Rattle.std.specs.Prelude.{IfOk}
 use Rattle.std.proofs.lemmas.Result.{on_ok_weaker}
 use Rattle.std.proofs.lemmas.Iterator.{YieldsList-from_slice, YieldsList-from_map_by}
 use Rattle.std.proofs.lemmas.Iterator.Consumers.{map_from_collect}
 use Rattle.conf_fault.specs.Explanation.{Adds}
 use Rattle.conf_fault.specs.Expected.{listed}
-use Rattle.conf_fault.specs.Wanted.{IsNearest, IsOneOf, names_of}
+use Rattle.conf_fault.specs.Wanted.{IsNearest, names_of}
 use Rattle.conf_fault.proofs.WantedLemmas.{one_of, same_names, texts}
 use Rattle.conf_fault.proofs.by_kind.push_properties.Goals as goal
 
