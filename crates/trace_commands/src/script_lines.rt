@@ -69,7 +69,7 @@ pub fn refused_line<F: Display + Drop>(
     fault: F,
 ) -> Result<Vec<u8>, AllocError>
     requires { number < length script.now.streams }
-    ensures { IfSome (F.output fault) (λ words. IfOk result (λ line. IsStreamLine file.now script.now number words line.items)) }
+    ensures { IfOk result (λ line. IfSome (F.output fault) (λ words. IsStreamLine file.now script.now number words line.items)) }
 {
     let mut said = String::new(alloc);
     push_cut(&mut said, script.streams.as_slice()[number].name.as_str())?;
