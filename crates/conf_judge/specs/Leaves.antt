@@ -1,6 +1,6 @@
 -- Values that hold no others, and the flaw of one that is not what it is to be: it is of another kind, no whole number, or
 -- outside of what is allowed (barectf 3.1, "Configuration object" and the pages below it).
-use Rattle.std.specs.Prelude.{◌&&◌, ◌||◌, ◌==◌, ◌%◌, ℤ, pos, negsuc, Bool, true, false, not, is_some, nat_lt, Result, Ok, Err, codes, ⊤, if◌then◌else◌}
+use Rattle.std.specs.Prelude.{◌&&◌, ◌||◌, ◌==◌, ◌%◌, ℤ, pos, negsuc, Bool, false, not, is_some, nat_lt, Result, Ok, Err, codes, ⊤, if◌then◌else◌}
 use Rattle.std.specs.List.{list_any}
 use Rattle.std.specs.Option.{option_map_or}
 use Rattle.std.specs.Str.{bytes_eq}

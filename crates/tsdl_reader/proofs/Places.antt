@@ -3,7 +3,6 @@ use Rattle.std.proofs.Common.{◌≡◌, ℕ, List, [], Option, slice_get, Resul
 use Rattle.std.proofs.lemmas.List.{append-nil}
 use Rattle.tsdl_grammar.specs.declared.atom.Atom.{Atom}
 use Rattle.tsdl_grammar.specs.declared.tree.Block.{Block}
-use Rattle.tsdl_grammar.specs.declared.fault.MetaFaultKind.{MetaFaultKind}
 use Rattle.tsdl_grammar.specs.declared.fault.MetaFaultKind.TheVariants as faults
 use Rattle.tsdl_flaw.specs.declared.flaw.Flaw.{Flaw}
 use Rattle.tsdl_flaw.specs.declared.flaw.Flaw.TheVariants as flaws
