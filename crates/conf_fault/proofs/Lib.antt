@@ -1,3 +1,5 @@
 pub mod Adding
+pub mod NearestLemmas
 pub mod ShownLemmas
 pub mod WantedLemmas
+pub mod WorkedNearest

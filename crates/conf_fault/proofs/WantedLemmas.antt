@@ -1,7 +1,8 @@
 -- What is told of a fault, put together of what the calls say.
-use Rattle.std.proofs.Common.{◌≡◌, ◌≢◌, inl, inr, List, [], ◌∷◌, ◌++◌, ℕ, Bool, true, false, map, refl, sym, ◌∙◌, ap, subst, append-nil}
+use Rattle.std.proofs.Common.{◌≡◌, ◌≢◌, List, [], ◌∷◌, ◌++◌, ℕ, Bool, true, false, map, refl, sym, ap, subst, append-nil}
 use Rattle.std.specs.Prelude.{not, Option, Some, None, MatchOption, Result, is_ok, OnOk, if◌then◌else◌, codes}
 use Rattle.std.specs.Borrow.{Bor}
+use Rattle.std.specs.Str.{bytes_eq}
 use Rattle.std.proofs.lemmas.Result.{on_ok_weaker}
 use Rattle.conf_table.specs.declared.place.Place.{Place}
 use Rattle.conf_table.specs.declared.words.Words.{Words}
@@ -16,7 +17,7 @@ use Rattle.conf_tree.specs.declared.fault_kind.FaultKind.TheVariants as kinds
 use Rattle.conf_tree.specs.declared.fault.ConfFault.{ConfFault}
 use Rattle.conf_fault.specs.Explanation.{Adds}
 use Rattle.conf_fault.specs.Expected.{classes_at, expected_words, listed}
-use Rattle.conf_fault.specs.Wanted.{IsChoice, IsHint, IsInRange, IsKnownName, IsNearest, IsOneOf, IsTold, IsToldOfKind, PathEnd, end_name, named_text}
+use Rattle.conf_fault.specs.Wanted.{IsChoice, IsHint, IsInRange, IsKnownName, IsNearestIf, IsOneOf, IsTold, IsToldOfKind, PathEnd, end_name, named_text, real_hint}
 use Rattle.conf_fault.proofs.Adding.{added, behind}
 
 abbrev pub texts : List (Bor (List ℕ)) → List (List ℕ)
@@ -24,21 +25,26 @@ texts words = map (λ w. w.now) words
 
 -- ---- words that are listed
 
-pub one_of : (words : List (List ℕ)) (was mid now : List ℕ) → mid ≡ was ++ listed words → Adds (IsNearest words) mid now → Adds (IsOneOf words) was now
-one_of words was mid now e near = (listed words ++ near.0, (near.0, near.1, refl), behind was mid now (listed words) near.0 e near.2)
+pub one_of : (text : Option (List ℕ)) (words : List (List ℕ)) (was mid now : List ℕ) → mid ≡ was ++ listed words → Adds (IsNearestIf text words) mid now → Adds (IsOneOf text words) was now
+one_of text words was mid now e near = (listed words ++ near.0, (near.0, near.1, refl), behind was mid now (listed words) near.0 e near.2)
 
-pub choice : (words : List (List ℕ)) (was mid now : List ℕ) → Adds (IsOneOf words) was mid → now ≡ mid → Adds (IsChoice words) was now
-choice words was mid now told e = (told.0, inl told.1, e ∙ told.2)
+-- with no text there is no word nearest to it
+pub none_near : (words : List (List ℕ)) (now : List ℕ) → Adds (IsNearestIf None words) now now
+none_near words now = ([], refl, sym (append-nil now))
 
-pub no_reals : (words : List (List ℕ)) (was mid now : List ℕ) → Adds (IsOneOf words) was mid → now ≡ mid ++ codes "; there are no real numbers" → Adds (IsChoice words) was now
-no_reals words was mid now told e = (told.0 ++ codes "; there are no real numbers", inr (told.0, told.1, refl), behind was mid now told.0 (codes "; there are no real numbers") told.2 e)
+pub chosen : (text : Option (List ℕ)) (words : List (List ℕ)) (was mid now : List ℕ) → Adds (IsOneOf text words) was mid → now ≡ mid ++ real_hint text → Adds (IsChoice words) was now
+chosen text words was mid now told e = (told.0 ++ real_hint text, (text, told.0, told.1, refl), behind was mid now told.0 (real_hint text) told.2 e)
 
-pub known : (thing was s1 s2 s3 now : List ℕ) (names : List (List ℕ)) → s1 ≡ was ++ (codes "the name of a " ++ (thing ++ codes " (there are ")) → s2 ≡ s1 ++ listed names → s3 ≡ s2 ++ codes ")"
-    → Adds (IsNearest names) s3 now → Adds (IsKnownName thing) was now
-known thing was s1 s2 s3 now names e f g near =
+-- whether it is said that there are no real numbers
+pub reals : (text : List ℕ) (b : Bool) → bytes_eq text (codes "real") ≡ b → real_hint (Some text) ≡ (if b then codes "; there are no real numbers" else [])
+reals text b e = ap (λ b. if b then codes "; there are no real numbers" else []) e
+
+pub known : (thing was s1 s2 s3 now : List ℕ) (text : Option (List ℕ)) (names : List (List ℕ)) → s1 ≡ was ++ (codes "the name of a " ++ (thing ++ codes " (there are ")) → s2 ≡ s1 ++ listed names → s3 ≡ s2 ++ codes ")"
+    → Adds (IsNearestIf text names) s3 now → Adds (IsKnownName thing) was now
+known thing was s1 s2 s3 now text names e f g near =
     let front = codes "the name of a " ++ (thing ++ codes " (there are ") in (
       front ++ listed names ++ codes ")" ++ near.0,
-      (names, near.0, near.1, refl),
+      (names, text, near.0, near.1, refl),
       behind was s3 now (front ++ listed names ++ codes ")") near.0 (behind was s2 s3 (front ++ listed names) (codes ")") (behind was s1 s2 front (listed names) e f) g) near.2,
     )
 
@@ -92,24 +98,24 @@ in_class content position words was now e f h =
     subst (λ (o : Option Content). Adds (IsInRange o position) was now) (sym e) (subst (λ (ws : List (List ℕ)). Adds (IsChoice ws) was now) f h)
 
 -- of the kinds that have no words of their own, what the table expects is told
-pub told_of_others : (kind : FaultKind) (end : PathEnd) (said : List ℕ) → kind ≢ kinds.Unknown → kind ≢ kinds.OutOfRange → kind ≢ kinds.NoSuchAlias → kind ≢ kinds.NoClock
-    → kind ≢ kinds.FieldTooSmall → kind ≢ kinds.Limit → said ≡ expected_words end.content end.position → IsToldOfKind kind end said
+pub told_of_others : (kind : FaultKind) (name : List ℕ) (end : PathEnd) (said : List ℕ) → kind ≢ kinds.Unknown → kind ≢ kinds.OutOfRange → kind ≢ kinds.NoSuchAlias → kind ≢ kinds.NoClock
+    → kind ≢ kinds.FieldTooSmall → kind ≢ kinds.Limit → said ≡ expected_words end.content end.position → IsToldOfKind kind name end said
 unfolding IsToldOfKind
-told_of_others kinds.Unknown end said a b c d e f is = absurd (a refl)
-told_of_others kinds.OutOfRange end said a b c d e f is = absurd (b refl)
-told_of_others kinds.NoSuchAlias end said a b c d e f is = absurd (c refl)
-told_of_others kinds.NoClock end said a b c d e f is = absurd (d refl)
-told_of_others kinds.FieldTooSmall end said a b c d e f is = absurd (e refl)
-told_of_others kinds.Limit end said a b c d e f is = absurd (f refl)
-told_of_others _ end said a b c d e f is = is
+told_of_others kinds.Unknown name end said a b c d e f is = absurd (a refl)
+told_of_others kinds.OutOfRange name end said a b c d e f is = absurd (b refl)
+told_of_others kinds.NoSuchAlias name end said a b c d e f is = absurd (c refl)
+told_of_others kinds.NoClock name end said a b c d e f is = absurd (d refl)
+told_of_others kinds.FieldTooSmall name end said a b c d e f is = absurd (e refl)
+told_of_others kinds.Limit name end said a b c d e f is = absurd (f refl)
+told_of_others _ name end said a b c d e f is = is
 
 -- the text by the property's name, or what the kind tells where there is none
 pub told_text : (fault : ConfFault) (end : PathEnd) (text : List ℕ) → named_text fault.kind (end_name fault.path) end.content ≡ Some text → IsTold fault end text
-told_text fault end text e = subst (λ (o : Option (List ℕ)). MatchOption o (IsToldOfKind fault.kind end text) (λ said. text ≡ said)) (sym e) refl
+told_text fault end text e = subst (λ (o : Option (List ℕ)). MatchOption o (IsToldOfKind fault.kind (end_name fault.path) end text) (λ said. text ≡ said)) (sym e) refl
 
-pub told_by_kind : (fault : ConfFault) (end : PathEnd) (said : List ℕ) → named_text fault.kind (end_name fault.path) end.content ≡ None → IsToldOfKind fault.kind end said → IsTold fault end said
-told_by_kind fault end said e is = subst (λ (o : Option (List ℕ)). MatchOption o (IsToldOfKind fault.kind end said) (λ text. said ≡ text)) (sym e) is
+pub told_by_kind : (fault : ConfFault) (end : PathEnd) (said : List ℕ) → named_text fault.kind (end_name fault.path) end.content ≡ None → IsToldOfKind fault.kind (end_name fault.path) end said → IsTold fault end said
+told_by_kind fault end said e is = subst (λ (o : Option (List ℕ)). MatchOption o (IsToldOfKind fault.kind (end_name fault.path) end said) (λ text. said ≡ text)) (sym e) is
 
 pub adds_by_kind : {T E : Type 0} (r : Result T E) (fault : ConfFault) (end : PathEnd) (was now : List ℕ) → named_text fault.kind (end_name fault.path) end.content ≡ None
-    → OnOk r (Adds (IsToldOfKind fault.kind end) was now) → OnOk r (Adds (IsTold fault end) was now)
-adds_by_kind r fault end was now e h = on_ok_weaker r (λ (adds : Adds (IsToldOfKind fault.kind end) was now). (adds.0, told_by_kind fault end adds.0 e adds.1, adds.2)) h
+    → OnOk r (Adds (IsToldOfKind fault.kind (end_name fault.path) end) was now) → OnOk r (Adds (IsTold fault end) was now)
+adds_by_kind r fault end was now e h = on_ok_weaker r (λ (adds : Adds (IsToldOfKind fault.kind (end_name fault.path) end) was now). (adds.0, told_by_kind fault end adds.0 e adds.1, adds.2)) h

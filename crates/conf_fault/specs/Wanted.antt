@@ -1,8 +1,8 @@
 -- What was expected where a fault stands, by the fault's kind: what is told of it, and behind that a hint or none. Kind and path are the fault's own;
 -- where in the table the way over the text ends is not said, so that what is told holds of some end.
-use Rattle.std.specs.Prelude.{◌≡◌, ◌⊎◌, ℕ, ◌-◌, List, [], ◌++◌, ◌==◌, Option, None, Some, MatchOption, Contains, Bool, true, false, length, map, slice_get, if◌then◌else◌, codes, string_bytes, decimal}
+use Rattle.std.specs.Prelude.{◌≡◌, ◌⊎◌, ℕ, ◌+◌, ◌-◌, ◌/◌, ◌<◌, ◌≤◌, min, All, List, [], ◌++◌, reverse, ◌==◌, Option, None, Some, MatchOption, Contains, Bool, true, false, not, unwrap_or, length, map, slice_get, if◌then◌else◌, codes, string_bytes, decimal}
 use Rattle.std.specs.Option.{option_and_then}
-use Rattle.std.specs.List.{list_any}
+use Rattle.std.specs.List.{list_any, position_from, zip}
 use Rattle.std.specs.Str.{bytes_eq}
 use Rattle.conf_tree.specs.declared.step.Step.{Step}
 use Rattle.conf_tree.specs.declared.step.Step.TheVariants.{Key}
@@ -68,17 +68,51 @@ named_text _ name content = None
 
 -- ---- the others
 
--- the nearest of some words, or none
-abbrev pub IsNearest : List (List ℕ) → List ℕ → Type 0
-IsNearest words said = (said ≡ []) ⊎ ((word : List ℕ) × Contains words word × (said ≡ codes "; the nearest is `" ++ word ++ codes "`"))
+-- the first place at which two words differ, as far as both go
+abbrev pub differ : ℕ × ℕ → Bool
+differ (b, c) = not (b == c)
 
--- all of some words, and the nearest of them or none
-abbrev pub IsOneOf : List (List ℕ) → List ℕ → Type 0
-IsOneOf words said = (nearest : List ℕ) × IsNearest words nearest × (said ≡ listed words ++ nearest)
+abbrev pub first_difference : List ℕ → List ℕ → Option ℕ
+first_difference word other = position_from differ 0 (zip word other)
 
--- the same of a value out of range, which may be a real number
+-- how many bytes two words have in common before it
+abbrev pub common : List ℕ → List ℕ → ℕ
+common word other = unwrap_or (first_difference word other) (min (length word) (length other))
+
+-- how much of two words is alike: the bytes that they have in common at their beginnings and at their ends, none counted twice
+abbrev pub likeness : List ℕ → List ℕ → ℕ
+likeness word other = min (common word other + common (reverse word) (reverse other)) (min (length word) (length other))
+
+-- of some words the one that is nearest to a text: more than half of the text is alike in it, and no word is more like the text; or none, where of no
+-- word that much is alike
+abbrev pub IsNearestOf : List ℕ → List (List ℕ) → Option (List ℕ) → Type 0
+IsNearestOf text words None = All (λ w. likeness text w ≤ length text / 2) words
+IsNearestOf text words (Some word) = Contains words word × (length text / 2 < likeness text word) × All (λ w. likeness text w ≤ likeness text word) words
+
+abbrev pub nearest_words : Option (List ℕ) → List ℕ
+nearest_words None = []
+nearest_words (Some word) = codes "; the nearest is `" ++ word ++ codes "`"
+
+-- the nearest of some words to a text, or none
+abbrev pub IsNearest : List ℕ → List (List ℕ) → List ℕ → Type 0
+IsNearest text words said = (word : Option (List ℕ)) × IsNearestOf text words word × (said ≡ nearest_words word)
+
+-- the same, where a text stands
+abbrev pub IsNearestIf : Option (List ℕ) → List (List ℕ) → List ℕ → Type 0
+IsNearestIf None words said = said ≡ []
+IsNearestIf (Some text) words said = IsNearest text words said
+
+-- all of some words, and the nearest of them to what stands there, or none
+abbrev pub IsOneOf : Option (List ℕ) → List (List ℕ) → List ℕ → Type 0
+IsOneOf text words said = (nearest : List ℕ) × IsNearestIf text words nearest × (said ≡ listed words ++ nearest)
+
+abbrev pub real_hint : Option (List ℕ) → List ℕ
+real_hint None = []
+real_hint (Some text) = if bytes_eq text (codes "real") then codes "; there are no real numbers" else []
+
+-- the same of a value out of range, which may be a real number; which text stands there is not said
 abbrev pub IsChoice : List (List ℕ) → List ℕ → Type 0
-IsChoice words said = IsOneOf words said ⊎ ((told : List ℕ) × IsOneOf words told × (said ≡ told ++ codes "; there are no real numbers"))
+IsChoice words said = (text : Option (List ℕ)) × (told : List ℕ) × IsOneOf text words told × (said ≡ told ++ real_hint text)
 
 -- of a value out of range: one of the words of its choice, or of the classes at its position, or what the table expects of it
 unfoldable pub IsInRange : Option Content → Place → List ℕ → Type 0
@@ -86,9 +120,9 @@ IsInRange (Some (contents.Word choice)) position said = IsChoice (words_of choic
 IsInRange (Some contents.Class) position said = IsChoice (classes_at position) said
 IsInRange content position said = said ≡ expected_words content position
 
--- the name of a thing, with those that there are, and the nearest of them or none
+-- the name of a thing, with those that there are, and the nearest of them or none; which text stands there is not said
 abbrev pub IsKnownName : List ℕ → List ℕ → Type 0
-IsKnownName thing said = (names : List (List ℕ)) × (nearest : List ℕ) × IsNearest names nearest
+IsKnownName thing said = (names : List (List ℕ)) × (text : Option (List ℕ)) × (nearest : List ℕ) × IsNearestIf text names nearest
     × (said ≡ codes "the name of a " ++ (thing ++ codes " (there are ") ++ listed names ++ codes ")" ++ nearest)
 
 abbrev pub alias_thing : Option Content → List ℕ
@@ -112,15 +146,15 @@ limit_words content position = expected_words content position
 abbrev pub names_of : Place → List (List ℕ)
 names_of holder = map (λ r. r.name) (rows_of holder)
 
--- what is told of a kind where the way ends
-unfoldable pub IsToldOfKind : FaultKind → PathEnd → List ℕ → Type 0
-IsToldOfKind kinds.Unknown end said = IsOneOf (names_of end.holder) said
-IsToldOfKind kinds.OutOfRange end said = IsInRange end.content end.position said
-IsToldOfKind kinds.NoSuchAlias end said = IsKnownName (alias_thing end.content) said
-IsToldOfKind kinds.NoClock end said = IsKnownName (codes "clock type") said
-IsToldOfKind kinds.FieldTooSmall end said = IsRoom said
-IsToldOfKind kinds.Limit end said = said ≡ limit_words end.content end.position
-IsToldOfKind _ end said = said ≡ expected_words end.content end.position
+-- what is told of a kind, by the name of the last step, where the way ends
+unfoldable pub IsToldOfKind : FaultKind → List ℕ → PathEnd → List ℕ → Type 0
+IsToldOfKind kinds.Unknown name end said = IsOneOf (Some name) (names_of end.holder) said
+IsToldOfKind kinds.OutOfRange name end said = IsInRange end.content end.position said
+IsToldOfKind kinds.NoSuchAlias name end said = IsKnownName (alias_thing end.content) said
+IsToldOfKind kinds.NoClock name end said = IsKnownName (codes "clock type") said
+IsToldOfKind kinds.FieldTooSmall name end said = IsRoom said
+IsToldOfKind kinds.Limit name end said = said ≡ limit_words end.content end.position
+IsToldOfKind _ name end said = said ≡ expected_words end.content end.position
 
 -- ---- a hint
 
@@ -142,7 +176,7 @@ IsHint _ path hint = hint ≡ []
 
 -- what is told of a fault: the text of its kind and its property's name, or what its kind tells where the way ends
 abbrev pub IsTold : ConfFault → PathEnd → List ℕ → Type 0
-IsTold fault end said = MatchOption (named_text fault.kind (end_name fault.path) end.content) (IsToldOfKind fault.kind end said) (λ text. said ≡ text)
+IsTold fault end said = MatchOption (named_text fault.kind (end_name fault.path) end.content) (IsToldOfKind fault.kind (end_name fault.path) end said) (λ text. said ≡ text)
 
 abbrev pub IsToldAndHinted : ConfFault → List ℕ → Type 0
 IsToldAndHinted fault said = (end : PathEnd) × (told : List ℕ) × (hint : List ℕ) × IsTold fault end told × IsHint fault.kind fault.path hint × (said ≡ told ++ hint)

@@ -1,6 +1,6 @@
 //! What was expected, by the kind of a fault.
 
-ghost use Rattle.std.specs.Prelude.{◌≡◌, ◌++◌, IfOk, OnOk, map, string_bytes};
+ghost use Rattle.std.specs.Prelude.{◌≡◌, ◌++◌, IfOk, OnOk, Some, map, string_bytes};
 ghost use Rattle.std.specs.Option.{option_and_then, option_copied};
 ghost use Rattle.conf_table.specs.Table.{entries_of};
 ghost use Rattle.conf_fault.specs.Explanation.{Adds, IsWanted, fixed_words, name_words};
@@ -73,7 +73,7 @@ fn push_told_of_kind(
     fault: &ConfFault,
     name: &str,
 ) -> Result<(), AllocError>
-    ensures { OnOk result (Adds (IsToldOfKind fault.now.kind (end_of found.now)) (string_bytes said.old) (string_bytes said.new)) }
+    ensures { OnOk result (Adds (IsToldOfKind fault.now.kind name.now (end_of found.now)) (string_bytes said.old) (string_bytes said.new)) }
 {
     match fault.kind {
         Unknown => push_properties(said, found, name),
@@ -223,7 +223,7 @@ fn push_choice(said: &mut String, found: &Found<'_>, words: &[&str]) -> Result<(
 
 /// Adds the properties of an object, with the one most like `name`.
 fn push_properties(said: &mut String, found: &Found<'_>, name: &str) -> Result<(), AllocError>
-    ensures { OnOk result (Adds (IsOneOf (names_of found.now.holder)) (string_bytes said.old) (string_bytes said.new)) }
+    ensures { OnOk result (Adds (IsOneOf (Some name.now) (names_of found.now.holder)) (string_bytes said.old) (string_bytes said.new)) }
 {
     let names: Vec<&str> = rows(found.holder)
         .iter()

@@ -1,9 +1,9 @@
 //! What the table expects of a value, in words, and the word among those allowed that is most like one that is not.
 
-ghost use Rattle.std.specs.Prelude.{◌≡◌, ◌++◌, IfOk, OnOk, map, string_bytes};
+ghost use Rattle.std.specs.Prelude.{◌≡◌, ◌++◌, IfOk, OnOk, map, option_map, reverse, string_bytes};
 ghost use Rattle.conf_fault.specs.Explanation.{Adds};
 ghost use Rattle.conf_fault.specs.Expected.{classes_at as words_of_classes_at, described as words_of_place, expected_words, holder_words as words_of_holder, listed, range_words, text_words};
-ghost use Rattle.conf_fault.specs.Wanted.{IsNearest};
+ghost use Rattle.conf_fault.specs.Wanted.{IsNearest, IsNearestOf, first_difference, likeness};
 
 use crate::found::Found;
 use conf_table::{Content, Entries, Keys, Place, class_words, entries, words_in};
@@ -80,34 +80,59 @@ pub(crate) fn push_words(said: &mut String, words: &[&str]) -> Result<(), AllocE
     said.push('`')
 }
 
-/// Adds the word most like `word`, where more than half of it is alike.
-pub(crate) fn push_nearest(said: &mut String, word: &str, words: &[&str]) -> Result<(), AllocError>
-    ensures { OnOk result (Adds (IsNearest (map (λ w. w.now) words.now)) (string_bytes said.old) (string_bytes said.new)) }
+/// Adds the word that is nearest to a text, if there is one.
+pub(crate) fn push_nearest(said: &mut String, text: &str, words: &[&str]) -> Result<(), AllocError>
+    ensures { OnOk result (Adds (IsNearest text.now (map (λ w. w.now) words.now)) (string_bytes said.old) (string_bytes said.new)) }
 {
-    let mut nearest = "";
-    let mut most = word.len() / 2;
-    for other in words {
-        let alike = likeness(word.as_bytes(), other.as_bytes());
-        if alike > most {
-            most = alike;
-            nearest = *other;
-        }
-    }
-    if nearest.is_empty() {
+    let Some(word) = nearest(text, words) else {
         return Ok(());
-    }
+    };
     said.push_str("; the nearest is `")?;
-    said.push_str(nearest)?;
+    said.push_str(word)?;
     said.push('`')
 }
 
-/// How many bytes two words have in common at their beginnings and at their ends.
-fn likeness(word: &[u8], other: &[u8]) -> usize {
-    let fronts = word.iter().zip(other);
-    let backs = word.iter().rev().zip(other.iter().rev());
-    let front = fronts.take_while(|(a, b)| **a == **b).count();
-    let back = backs.take_while(|(a, b)| **a == **b).count();
-    front.saturating_add(back).min(word.len().min(other.len()))
+/// The word that is most like a text, the first of several, where more than half of the text is alike in it.
+fn nearest<'w>(text: &str, words: &[&'w str]) -> Option<&'w str>
+    ensures { IsNearestOf text.now (map (λ w. w.now) words.now) (option_map (λ w. w.now) result) }
+{
+    let mut nearest = None;
+    let mut most = text.len() / 2;
+    for word in words {
+        let alike = likeness(text.as_bytes(), word.as_bytes());
+        if alike > most {
+            most = alike;
+            nearest = Some(*word);
+        }
+    }
+    nearest
+}
+
+/// How much of two words is alike, in bytes: what they have in common at their beginnings and at their ends.
+fn likeness(word: &[u8], other: &[u8]) -> usize
+    ensures { result ≡ likeness word.now other.now }
+{
+    let shorter = word.len().min(other.len());
+    let front = first_difference(word, other).unwrap_or(shorter);
+    let back = last_difference(word, other).unwrap_or(shorter);
+    front.saturating_add(back).min(shorter)
+}
+
+/// The first place at which two words differ, as far as both go.
+fn first_difference(word: &[u8], other: &[u8]) -> Option<usize>
+    ensures { result ≡ first_difference word.now other.now }
+{
+    word.iter()
+        .zip(other)
+        .position(|(byte, second)| *byte != *second)
+}
+
+/// The same from their ends on.
+fn last_difference(word: &[u8], other: &[u8]) -> Option<usize>
+    ensures { result ≡ first_difference (reverse word.now) (reverse other.now) }
+{
+    let mut backs = word.iter().rev().zip(other.iter().rev());
+    backs.position(|(byte, second)| *byte != *second)
 }
 
 /// The words of the classes that may stand where the path leads.

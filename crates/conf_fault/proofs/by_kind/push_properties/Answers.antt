@@ -1,5 +1,5 @@
 use Rattle.std.proofs.Common.{◌≡◌, ◌∙◌, ◌++◌, ap, map, rules, string_bytes, subst, tests}
-use Rattle.std.specs.Prelude.{IfOk}
+use Rattle.std.specs.Prelude.{IfOk, Some}
 use Rattle.std.proofs.lemmas.Result.{on_ok_weaker}
 use Rattle.std.proofs.lemmas.Iterator.{YieldsList-from_slice, YieldsList-from_map_by}
 use Rattle.std.proofs.lemmas.Iterator.Consumers.{map_from_collect}
@@ -18,7 +18,7 @@ returns c =
     (map_from_collect _ c.collect.ensures.ran (YieldsList-from_map_by _ (λ r. r.now) (λ x. x.0.now) (YieldsList-from_slice c.rows.result.now (cc)) c.map.ensures.closure (λ x r q k. search (rules, tests)))) in
     let same = collected ∙ same_names c.rows.result.now ∙ ap (λ rows. map (λ r. r.name) rows) c.rows.ensures in
     on_ok_weaker c.push_nearest.result
-    (λ (near : Adds (IsNearest (texts c.as_slice-2.result.now)) mid (string_bytes c.push_nearest.new.said)).
-    one_of names was mid _ (c.in_ok-push_words.ensures ∙ ap (λ words. was ++ listed words) (ap texts c.as_slice.ensures.value ∙ same))
-    (subst (λ words. Adds (IsNearest words) mid (string_bytes c.push_nearest.new.said)) (ap texts c.as_slice-2.ensures.value ∙ same) near))
+    (λ (near : Adds (IsNearest c.args.name.now (texts c.as_slice-2.result.now)) mid (string_bytes c.push_nearest.new.said)).
+    one_of (Some c.args.name.now) names was mid _ (c.in_ok-push_words.ensures ∙ ap (λ words. was ++ listed words) (ap texts c.as_slice.ensures.value ∙ same))
+    (subst (λ words. Adds (IsNearest c.args.name.now words) mid (string_bytes c.push_nearest.new.said)) (ap texts c.as_slice-2.ensures.value ∙ same) near))
     c.push_nearest.ensures

@@ -31,6 +31,6 @@ returns-in-Limit c =
 
 pub returns-in_default : goal.returns-in_default
 returns-in_default c =
-    adds_same c.push_expected.result (IsToldOfKind c.args.fault.now.kind (end_of c.args.found.now)) _ _ _
-    (told_of_others _ _ _ c.in_default.not-Unknown c.in_default.not-OutOfRange c.in_default.not-NoSuchAlias c.in_default.not-NoClock c.in_default.not-FieldTooSmall c.in_default.not-Limit refl)
+    adds_same c.push_expected.result (IsToldOfKind c.args.fault.now.kind c.args.name.now (end_of c.args.found.now)) _ _ _
+    (told_of_others _ _ _ _ c.in_default.not-Unknown c.in_default.not-OutOfRange c.in_default.not-NoSuchAlias c.in_default.not-NoClock c.in_default.not-FieldTooSmall c.in_default.not-Limit refl)
     c.push_expected.ensures
