@@ -27,14 +27,23 @@ unfoldable pub size_feature : Data → Result ⊤ Flaw
 size_feature (boolean b) = only_if b
 size_feature d = any_object d
 
+abbrev pub some_items : Data → Result ⊤ Flaw
+some_items d = list_of d >>= (λ ds. only_if (nat_lt 0 (items_len ds)))
+
+abbrev pub some_members : Data → Result ⊤ Flaw
+some_members d = object_of d >>= (λ ms. only_if (nat_lt 0 (members_len ms)))
+
+abbrev pub one_member : Data → Result ⊤ Flaw
+one_member d = object_of d >>= (λ ms. if nat_eq (members_len ms) 1 then Ok tt else Err (here WrongKind))
+
 -- a list or an object has one at least of what it holds, and an entry just one property
 unfoldable pub form_of : Known → Place → Data → Result ⊤ Flaw
 form_of k places.Members d = list_of d >>= (λ ds. Ok tt)
 form_of k places.ExtraMembers d = list_of d >>= (λ ds. Ok tt)
-form_of k places.Ranges d = list_of d >>= (λ ds. only_if (nat_lt 0 (items_len ds)))
+form_of k places.Ranges d = some_items d
 form_of k places.Range d = inside_of k.numbers d
-form_of k places.Entry d = object_of d >>= (λ ms. if nat_eq (members_len ms) 1 then Ok tt else Err (here WrongKind))
-form_of k places.Mappings d = object_of d >>= (λ ms. only_if (nat_lt 0 (members_len ms)))
+form_of k places.Entry d = one_member d
+form_of k places.Mappings d = some_members d
 form_of k places.Feature d = feature d
 form_of k places.MagicFeature d = feature d
 form_of k places.IdentifierFeature d = feature d

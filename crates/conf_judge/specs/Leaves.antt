@@ -1,6 +1,6 @@
 -- Values that hold no others, and the flaw of one that is not what it is to be: it is of another kind, no whole number, or
 -- outside of what is allowed (barectf 3.1, "Configuration object" and the pages below it).
-use Rattle.std.specs.Prelude.{◌&&◌, ◌||◌, ◌==◌, ◌%◌, ℤ, pos, negsuc, Bool, false, not, is_some, nat_lt, Result, Ok, Err, codes, ⊤, if◌then◌else◌}
+use Rattle.std.specs.Prelude.{◌&&◌, ◌||◌, ◌==◌, ◌%◌, ℕ, ℤ, pos, negsuc, List, Bool, false, not, is_some, nat_lt, Result, Ok, Err, codes, ⊤, if◌then◌else◌}
 use Rattle.std.specs.List.{list_any}
 use Rattle.std.specs.Option.{option_map_or}
 use Rattle.std.specs.Str.{bytes_eq}
@@ -40,18 +40,29 @@ unfoldable pub level : Members → ℤ → Data → Result ⊤ Flaw
 level levels high (string s) = option_map_or (whole_from (pos 0) high) (get_member s levels) (Err (here NoSuchAlias))
 level levels high d = whole_from (pos 0) high d
 
--- a flag of its kind is true once at most; a text is one that people read; what stands at a place is no leaf
+-- a flag of its kind is true once at most
+abbrev pub one_flag : Bool → Data → Result ⊤ Flaw
+one_flag has_default d = flag_of d >>= (λ b. only_if (not (b && has_default)))
+
+-- a text that does not fit is out of range
+abbrev pub text_that : (List ℕ → Bool) → Data → Result ⊤ Flaw
+text_that fits d = text_of d >>= (λ s. only_if (fits s))
+
+abbrev pub is_uuid_or_auto : List ℕ → Bool
+is_uuid_or_auto s = bytes_eq s (codes "auto") || is_some (uuid_in s)
+
+-- a text is one that people read; what stands at a place is no leaf
 unfoldable pub leaf_of : Known → Content → Data → Result ⊤ Flaw
 leaf_of k (Whole low high) d = whole_from low high d
 leaf_of k (PowerOfTwo high) d = power_of d
 leaf_of k Flag d = flag_of d >>= (λ b. Ok tt)
-leaf_of k OneFlag d = flag_of d >>= (λ b. only_if (not (b && k.has_default)))
-leaf_of k (Text most) d = text_of d >>= (λ s. only_if (is_printable s))
+leaf_of k OneFlag d = one_flag k.has_default d
+leaf_of k (Text most) d = text_that is_printable d
 leaf_of k ClockName d = text_of d >>= (λ s. Ok tt)
-leaf_of k Identifier d = text_of d >>= (λ s. only_if (is_some (uuid_in s)))
-leaf_of k IdentifierOrAuto d = text_of d >>= (λ s. only_if (bytes_eq s (codes "auto") || is_some (uuid_in s)))
-leaf_of k (Word words) d = text_of d >>= (λ s. only_if (list_any (bytes_eq s) (words_of words)))
-leaf_of k Class d = text_of d >>= (λ s. only_if (is_some (class_in s class_words)))
+leaf_of k Identifier d = text_that (λ s. is_some (uuid_in s)) d
+leaf_of k IdentifierOrAuto d = text_that is_uuid_or_auto d
+leaf_of k (Word words) d = text_that (λ s. list_any (bytes_eq s) (words_of words)) d
+leaf_of k Class d = text_that (λ s. is_some (class_in s class_words)) d
 leaf_of k (WholeOrText low high most) d = whole_or_text low high d
 leaf_of k (Level high) d = level k.levels high d
 leaf_of k (At place) d = Ok tt

@@ -1,13 +1,15 @@
 //! Values that hold no others: numbers, flags, texts and words.
-ghost use Rattle.std.specs.Prelude.{◌≡◌, ◌≤◌, IfErr, map, option_map, unwrap_or};
+ghost use Rattle.std.specs.Prelude.{◌≡◌, ◌≤◌, IfErr, is_some, map, option_map, unwrap_or};
 ghost use Rattle.std.specs.List.{list_any};
 ghost use Rattle.std.specs.Str.{bytes_eq};
 ghost use Rattle.serde_json.specs.Data.{no_members};
 ghost use Rattle.serde_json.specs.View.{view, members_view};
+ghost use Rattle.conf_table.specs.Classes.{class_in, class_words};
 ghost use Rattle.conf_tree.specs.Reading.{Gives};
+ghost use Rattle.conf_values.specs.Scalar.{is_printable as printable, uuid_in};
 ghost use Rattle.conf_judge.specs.Forms.{itself_of};
 ghost use Rattle.conf_judge.specs.Known.{known_of};
-ghost use Rattle.conf_judge.specs.Leaves.{only_if, whole_from, power_of, level};
+ghost use Rattle.conf_judge.specs.Leaves.{is_uuid_or_auto, level, one_flag, only_if, power_of, text_that, whole_from, whole_or_text};
 
 use crate::around::Around;
 use crate::form::check_form;
@@ -18,7 +20,7 @@ use serde_json::{Map, Value};
 use std::alloc::Global;
 
 /// Refuses a value that is of another kind than its content, or a value that holds no others and is not what it is to be.
-#[tactic(auto, unfolding(crate::specs::Forms::itself_of, crate::specs::Leaves::leaf_of, crate::specs::Leaves::whole_or_text))]
+#[tactic(auto, unfolding(crate::specs::Forms::itself_of, crate::specs::Leaves::leaf_of))]
 pub(crate) fn check_itself(
     alloc: Global,
     around: &Around<'_>,
@@ -31,26 +33,14 @@ pub(crate) fn check_itself(
         Content::Whole { low, high } => check_whole(alloc, value, low, high),
         Content::PowerOfTwo { .. } => check_power_of_two(alloc, value),
         Content::Flag => flag(alloc, At::Here, value).map(|_| ()),
-        Content::OneFlag => {
-            let is_default = flag(alloc, At::Here, value)?;
-            check_that(alloc, !(is_default && around.has_default))
-        }
-        Content::Text { .. } => check_that(alloc, is_printable(text(alloc, At::Here, value)?)),
+        Content::OneFlag => check_one_flag(alloc, around.has_default, value),
+        Content::Text { .. } => check_printable(alloc, value),
         Content::ClockName => text(alloc, At::Here, value).map(|_| ()),
-        Content::Identifier => check_that(alloc, parsed(text(alloc, At::Here, value)?).is_some()),
-        Content::IdentifierOrAuto => {
-            let text = text(alloc, At::Here, value)?;
-            check_that(alloc, text == "auto" || parsed(text).is_some())
-        }
-        Content::Word(words) => {
-            let text = text(alloc, At::Here, value)?;
-            check_that(alloc, is_among(words_in(words), text))
-        }
-        Content::Class => check_that(alloc, class_place(text(alloc, At::Here, value)?).is_some()),
-        Content::WholeOrText { low, high, .. } => match value {
-            Value::String(text) => check_that(alloc, is_printable(text.as_str())),
-            _ => check_whole(alloc, value, low, high),
-        },
+        Content::Identifier => check_identifier(alloc, value),
+        Content::IdentifierOrAuto => check_identifier_or_auto(alloc, value),
+        Content::Word(words) => check_word(alloc, words_in(words), value),
+        Content::Class => check_class(alloc, value),
+        Content::WholeOrText { low, high, .. } => check_whole_or_text(alloc, value, low, high),
         Content::Level { high } => check_level(alloc, around.levels, value, high),
         Content::At(place) => check_form(alloc, around, place, value),
         Content::Anything => Ok(()),
@@ -91,6 +81,42 @@ fn check_power_of_two(alloc: Global, value: &Value) -> Result<(), ConfFault>
     )
 }
 
+/// Of the flags of this kind one is true at most.
+fn check_one_flag(alloc: Global, has_default: bool, value: &Value) -> Result<(), ConfFault>
+    ensures { Gives (λ _. tt) result (one_flag has_default (view value.now)) }
+{
+    let is_default = flag(alloc, At::Here, value)?;
+    check_that(alloc, !(is_default && has_default))
+}
+
+/// A text that people read.
+fn check_printable(alloc: Global, value: &Value) -> Result<(), ConfFault>
+    ensures { Gives (λ _. tt) result (text_that printable (view value.now)) }
+{
+    check_that(alloc, is_printable(text(alloc, At::Here, value)?))
+}
+
+fn check_identifier(alloc: Global, value: &Value) -> Result<(), ConfFault>
+    ensures { Gives (λ _. tt) result (text_that (λ s. is_some (uuid_in s)) (view value.now)) }
+{
+    check_that(alloc, parsed(text(alloc, At::Here, value)?).is_some())
+}
+
+/// The number of the trace, or the word for the one that the caller hands in.
+fn check_identifier_or_auto(alloc: Global, value: &Value) -> Result<(), ConfFault>
+    ensures { Gives (λ _. tt) result (text_that is_uuid_or_auto (view value.now)) }
+{
+    let text = text(alloc, At::Here, value)?;
+    check_that(alloc, text == "auto" || parsed(text).is_some())
+}
+
+fn check_word(alloc: Global, words: &'static [&'static str], value: &Value) -> Result<(), ConfFault>
+    ensures { Gives (λ _. tt) result (text_that (λ s. list_any (bytes_eq s) (map (λ w. w.now) words.now)) (view value.now)) }
+{
+    let text = text(alloc, At::Here, value)?;
+    check_that(alloc, is_among(words, text))
+}
+
 fn is_among(words: &'static [&'static str], word: &str) -> bool
     ensures { result ≡ list_any (bytes_eq word.now) (map (λ w. w.now) words.now) }
 {
@@ -100,6 +126,23 @@ fn is_among(words: &'static [&'static str], word: &str) -> bool
         }
     }
     false
+}
+
+fn check_class(alloc: Global, value: &Value) -> Result<(), ConfFault>
+    ensures { Gives (λ _. tt) result (text_that (λ s. is_some (class_in s class_words)) (view value.now)) }
+{
+    check_that(alloc, class_place(text(alloc, At::Here, value)?).is_some())
+}
+
+/// A whole number, or a text that people read.
+#[tactic(auto, unfolding(crate::specs::Leaves::whole_or_text))]
+fn check_whole_or_text(alloc: Global, value: &Value, low: i128, high: i128) -> Result<(), ConfFault>
+    ensures { Gives (λ _. tt) result (whole_or_text low high (view value.now)) }
+{
+    match value {
+        Value::String(text) => check_that(alloc, is_printable(text.as_str())),
+        _ => check_whole(alloc, value, low, high),
+    }
 }
 
 /// A number, or the name of an alias of one.
