@@ -31,6 +31,10 @@ unfoldable pub mark_at : Mark → List Atom → Option (List Atom)
 mark_at m [] = None
 mark_at m (a ∷ ts) = if is_mark m a then Some ts else None
 
+-- what was read, with this mark behind it
+abbrev pub closed_by : {A : Type 0} → Mark → A × List Atom → Option (A × List Atom)
+closed_by m x = mark_at m x.1 >>= λ rest. Some (x.0, rest)
+
 -- any word
 unfoldable pub word_at : List Atom → Option (List ℕ × List Atom)
 word_at (atoms.Word w ∷ ts) = Some (w, ts)

@@ -4,7 +4,7 @@ ghost use Rattle.tsdl_parser.specs.Rules.{shown, Gives, dotted_at, name_at, valu
 
 use crate::expected::Expected;
 use crate::halt::{Missing, SEMICOLON, back_to, going_on};
-use crate::parsing::{Read, mark_at, next_atom, number_at, word_at};
+use crate::parsing::{Read, closed_by, mark_at, next_atom, number_at, word_at};
 use crate::repetition::{Repeated, Start, all_at};
 use ctf_types::Text;
 use std::alloc::Global;
@@ -53,7 +53,7 @@ pub(crate) fn attr_behind(alloc: Global, name: Name, atoms: Atoms<'_>) -> Read<'
 {
     let rest = going_on(mark_at(Mark::Equals, atoms), &[Missing::Zero, SEMICOLON])?;
     let (value, rest) = going_on(value_at(alloc, rest), &[SEMICOLON])?;
-    Ok((Attribute { name, value }, mark_at(Mark::Semicolon, rest)?))
+    closed_by(Mark::Semicolon, (Attribute { name, value }, rest))
 }
 
 impl Repeated for Attribute {

@@ -8,7 +8,9 @@ use crate::attribute::{attr_behind, name_at};
 use crate::expected::Expected;
 use crate::halt::{CLOSE_BRACE, Missing, SEMICOLON, Unread, back_to, expecting, going_on};
 use crate::member::struct_at;
-use crate::parsing::{Read, begins, keyword_at, mark_at, names, next_atom, number_at, word_at};
+use crate::parsing::{
+    Read, begins, closed_by, keyword_at, mark_at, names, next_atom, number_at, word_at,
+};
 use crate::repetition::{Repeated, Start, all_at, braced_at};
 use ctf_types::ListOf;
 use std::alloc::Global;
@@ -28,7 +30,7 @@ impl Repeated for Item {
         let rest = back_to(rest, atoms)?;
         let (structure, rest) = going_on(struct_at(alloc, rest), &[SEMICOLON])?;
         let scope = Scope { name, structure };
-        Ok((Item::Scope(scope), mark_at(Mark::Semicolon, rest)?))
+        closed_by(Mark::Semicolon, (Item::Scope(scope), rest))
     }
 }
 
@@ -61,7 +63,7 @@ impl Repeated for NamedFact {
         let (name, rest) = word_at(alloc, atoms, Expected::FactName)?;
         let rest = going_on(mark_at(Mark::Equals, rest), &[Missing::Zero, SEMICOLON])?;
         let (fact, rest) = going_on(fact_at(alloc, rest), &[SEMICOLON])?;
-        Ok((NamedFact { name, fact }, mark_at(Mark::Semicolon, rest)?))
+        closed_by(Mark::Semicolon, (NamedFact { name, fact }, rest))
     }
 }
 
@@ -93,8 +95,7 @@ impl Repeated for Block {
 
     #[tactic(auto, unfolding(crate::specs::Rules::ended_block_at))]
     fn item_at(alloc: Global, atoms: Atoms<'_>) -> Read<'_, Block> {
-        let (block, rest) = block_at(alloc, atoms)?;
-        Ok((block, mark_at(Mark::Semicolon, rest)?))
+        closed_by(Mark::Semicolon, block_at(alloc, atoms)?)
     }
 }
 

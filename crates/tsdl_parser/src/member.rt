@@ -8,7 +8,9 @@ use crate::halt::{
     CLOSE_BRACE, CLOSE_BRACKET, CLOSE_PARENTHESIS, Missing, NAME, OPEN_BRACE, SEMICOLON, expecting,
     going_on,
 };
-use crate::parsing::{Read, begins, keyword_at, mark_at, names, next_atom, number_at, word_at};
+use crate::parsing::{
+    Read, begins, closed_by, keyword_at, mark_at, names, next_atom, number_at, word_at,
+};
 use crate::repetition::{Repeated, Start, all_at, braced_at};
 use ctf_types::ListOf;
 use std::alloc::Global;
@@ -82,8 +84,8 @@ impl Repeated for Bracket {
     #[tactic(auto, unfolding(crate::specs::Rules::bracket_at))]
     fn item_at(alloc: Global, atoms: Atoms<'_>) -> Read<'_, Bracket> {
         let inside = mark_at(Mark::OpenBracket, atoms)?;
-        let (count, rest) = going_on(count_at(alloc, inside), &[CLOSE_BRACKET])?;
-        Ok((count, mark_at(Mark::CloseBracket, rest)?))
+        let count = going_on(count_at(alloc, inside), &[CLOSE_BRACKET])?;
+        closed_by(Mark::CloseBracket, count)
     }
 }
 
@@ -102,7 +104,7 @@ impl Repeated for MemberTree {
             name,
             brackets,
         };
-        Ok((member, mark_at(Mark::Semicolon, rest)?))
+        closed_by(Mark::Semicolon, (member, rest))
     }
 }
 
@@ -118,7 +120,7 @@ fn align_at(alloc: Global, atoms: Atoms<'_>) -> Read<'_, Option<Number>>
     let inside = going_on(inside, &[Missing::Zero, CLOSE_PARENTHESIS])?;
     let align = number_at(alloc, inside, Expected::Number);
     let (align, rest) = going_on(align, &[CLOSE_PARENTHESIS])?;
-    Ok((Some(align), mark_at(Mark::CloseParenthesis, rest)?))
+    closed_by(Mark::CloseParenthesis, (Some(align), rest))
 }
 
 #[tactic(auto, unfolding(crate::specs::Parsing::braced_at, crate::specs::Rules::struct_at), using(crate::proofs::Repeated::shortens, crate::proofs::Members::member_spells))]

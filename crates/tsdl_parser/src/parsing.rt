@@ -2,7 +2,7 @@
 
 ghost use Rattle.std.specs.Prelude.{◌≡◌, ◌∷◌, [], IfOk, MatchOption};
 ghost use Rattle.tsdl_grammar.specs.Fronts.{shown};
-ghost use Rattle.tsdl_parser.specs.Parsing.{Gives, begins, mark_at, word_at, names, keyword_at, number_at};
+ghost use Rattle.tsdl_parser.specs.Parsing.{Gives, begins, closed_by, mark_at, word_at, names, keyword_at, number_at};
 
 use crate::expected::Expected;
 use crate::halt::{Halt, Missing, Unread};
@@ -42,6 +42,14 @@ pub(crate) fn mark_at(mark: Mark, atoms: Atoms<'_>) -> Result<Atoms<'_>, Unread>
     }
     let halt = Halt::before(atoms, Expected::Mark(mark), &[Missing::Mark(mark)]);
     Err(Unread::Halted(halt))
+}
+
+/// What was read, where this mark stands behind it.
+pub(crate) fn closed_by<'a, T: Drop>(mark: Mark, read: (T, Atoms<'a>)) -> Read<'a, T>
+    ensures { Gives (λ x. (x.0, shown x.1)) result (closed_by mark (read.entry.0, shown read.entry.1)) }
+{
+    let (value, rest) = read;
+    Ok((value, mark_at(mark, rest)?))
 }
 
 /// A word.

@@ -5,7 +5,7 @@ ghost use Rattle.tsdl_parser.specs.Rules.{Atom, shown, Gives, Shortens, many, br
 
 use crate::enumeration::is_labelled;
 use crate::halt::Unread;
-use crate::parsing::{Read, begins, mark_at};
+use crate::parsing::{Read, begins, closed_by, mark_at};
 use ctf_types::ListOf;
 use std::alloc::{AllocError, Global};
 use tsdl_grammar::{Atoms, Mark};
@@ -74,6 +74,5 @@ pub(crate) fn braced_at<T: Repeated>(alloc: Global, atoms: Atoms<'_>) -> Read<'_
     ensures { Gives (λ x. (x.0, shown x.1)) result (braced_at T.item (shown atoms.entry)) }
 {
     let inside = mark_at(Mark::OpenBrace, atoms)?;
-    let (items, rest) = all_at(alloc, inside, Start::InBraces)?;
-    Ok((items, mark_at(Mark::CloseBrace, rest)?))
+    closed_by(Mark::CloseBrace, all_at(alloc, inside, Start::InBraces)?)
 }
