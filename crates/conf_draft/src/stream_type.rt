@@ -11,6 +11,7 @@ use crate::lookup::{object_or, text};
 use crate::members::listed;
 use crate::structure::{made, structure};
 use ctf_types::{ContextFeatures, EventFeatures, ListOf, StreamType, StructType, Text};
+use plain_lists::both;
 use serde_json::{Map, Value};
 use std::alloc::{AllocError, Global};
 
@@ -45,10 +46,13 @@ fn stream_type(
     ensures { IfOk result (λ s. stream_type_of (members_view levels.now.entries) name.now (members_view members.now.entries) ≡ Some s) }
 {
     let default_clock = text(alloc, members, "$default-clock-type-name")?;
-    let (context, event_header) = features(alloc, members, &default_clock)?;
-    let (extras, common) = structures(alloc, members)?;
-    let events = event_types(alloc, members, levels)?;
-    let name = Text::from_str(alloc, name)?;
+    let features = features(alloc, members, &default_clock);
+    let head = both(Text::from_str(alloc, name), features);
+    let types = both(
+        structures(alloc, members),
+        event_types(alloc, members, levels),
+    );
+    let ((name, (context, event_header)), ((extras, common), events)) = both(head, types)?;
     Ok(StreamType {
         name,
         default_clock,

@@ -70,15 +70,37 @@ fn flaw_of_word(alloc: Global, word: &str, expected: Expected) -> Result<Flaw, A
 /// that have names are written where they are used; aliases of types, and the words of C that stand for some, are written
 /// in other words; types of reals and variants stay.
 fn remedy_of(word: &str, expected: Expected) -> Option<Remedy> {
-    match (expected, word) {
-        (Expected::Block, "enum" | "struct" | "typealias" | "typedef") => Some(Remedy::Conversion),
-        (Expected::Block, _) | (Expected::Member, "struct") => Some(Remedy::Nothing),
-        _ if !is_unused_keyword(word) => None,
-        (_, "const" | "typealias" | "typedef") => Some(Remedy::Conversion),
-        (_, "_Bool" | "char" | "int" | "long" | "short" | "unsigned" | "void") => {
-            Some(Remedy::Conversion)
-        }
-        _ => Some(Remedy::Nothing),
+    match expected {
+        Expected::Block => Some(remedy_among(CONVERTED_BLOCKS, word)),
+        Expected::Member if word == "struct" => Some(Remedy::Nothing),
+        _ if is_unused_keyword(word) => Some(remedy_among(CONVERTED_WORDS, word)),
+        _ => None,
+    }
+}
+
+/// Constructs that a conversion writes in other words, where a block begins.
+const CONVERTED_BLOCKS: &[&str] = &["enum", "struct", "typealias", "typedef"];
+
+/// The same anywhere else.
+const CONVERTED_WORDS: &[&str] = &[
+    "_Bool",
+    "char",
+    "const",
+    "int",
+    "long",
+    "short",
+    "typealias",
+    "typedef",
+    "unsigned",
+    "void",
+];
+
+/// What can be done about a word, where a conversion writes these in other words.
+fn remedy_among(converted: &[&str], word: &str) -> Remedy {
+    if converted.contains(&word) {
+        Remedy::Conversion
+    } else {
+        Remedy::Nothing
     }
 }
 

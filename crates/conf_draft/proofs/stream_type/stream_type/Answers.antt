@@ -1,4 +1,4 @@
-use Rattle.std.proofs.Common.{◌≡◌, ℕ, List, Option, Some, refl, subst}
+use Rattle.std.proofs.Common.{◌≡◌, ℕ, List, Ok, Option, Some, refl, subst}
 use Rattle.std.specs.Prelude.{codes}
 use Rattle.serde_json.specs.View.{members_view}
 use Rattle.ctf_types.specs.declared.ContextFeatures.{ContextFeatures}
@@ -19,9 +19,14 @@ unfolding stream_type
 returns c =
     let ms = members_view c.args.members.now.entries in
     let clock = c.in_ok-default_clock.ensures in
-    stream_made c.args.name.now c.in_ok-name.name (clock_of ms) c.in_ok-default_clock.default_clock _ _ _ _ _ c.in_ok-context.context c.in_ok-extras.extras c.in_ok-context.event_header c.in_ok-extras.common c.in_ok-events.events
-    c.in_ok-name.ensures clock
-    (subst (λ k. context k (feature_group (codes "packet") ms) ≡ Some c.in_ok-context.context) clock c.in_ok-context.ensures.context)
-    c.in_ok-extras.ensures.extras
-    (subst (λ k. event_header k (feature_group (codes "event-record") ms) ≡ Some c.in_ok-context.event_header) clock c.in_ok-context.ensures.header)
-    c.in_ok-extras.ensures.common c.in_ok-events.ensures
+    let stream = c.in_ok-name in
+    let named : c.from_str.result ≡ Ok stream.name = rw stream.ensures.first at c.both-head.ensures.first in
+    let featured : c.features-features.result ≡ Ok (stream.context, stream.event_header) = rw stream.ensures.first at c.both-head.ensures.second in
+    let structured : c.structures.result ≡ Ok (stream.extras, stream.common) = rw stream.ensures.second at c.both-types.ensures.first in
+    let listed : c.event_types.result ≡ Ok stream.events = rw stream.ensures.second at c.both-types.ensures.second in
+    stream_made c.args.name.now stream.name (clock_of ms) c.in_ok-default_clock.default_clock _ _ _ _ _ stream.context stream.extras stream.event_header stream.common stream.events
+    (rw named at c.from_str.ensures) clock
+    (subst (λ k. context k (feature_group (codes "packet") ms) ≡ Some stream.context) clock (rw featured at c.features-features.ensures.context))
+    (rw structured at c.structures.ensures.extras)
+    (subst (λ k. event_header k (feature_group (codes "event-record") ms) ≡ Some stream.event_header) clock (rw featured at c.features-features.ensures.header))
+    (rw structured at c.structures.ensures.common) (rw listed at c.event_types.ensures)
