@@ -1,29 +1,17 @@
-//! Worked rows over single streams and their files.
+//! Worked rows over single streams and their files that no run of the program shows; its cases show the others.
 
-mod alignments;
 mod changed_bytes;
-mod clock_values;
-mod context_faults;
-mod damaged_files;
 mod declined_ends;
 mod expected;
 mod found_in_files;
-mod gaps;
-mod header_faults;
 mod lying_lengths;
 mod memory;
 mod number_configuration;
 mod number_files;
 mod packet_by_packet;
-mod packet_layouts;
 mod platform_limits;
-mod reading;
-mod record_faults;
 mod recycled_buffers;
 mod refusals;
-mod resuming;
 mod rings;
-mod short_timestamps;
 mod stream_files;
-mod stream_steps;
 mod streams;

@@ -19,91 +19,38 @@ const SEQUENCE: Changes = &[(
 
 const TEXT: Changes = &[("PAYLOAD", r#"[{"s":{"field-type":{"class":"str"}}}]"#)];
 
-/// A configuration, what is changed in it, and a file of one packet.
-static FILES: &[(&str, Changes, &str)] = &[
-    (SMALL, &[], "c11ffcc1 80000000 70000000 01020000"),
+/// What metadata is read from, and a file of one packet.
+static FILES: &[(Source, &str)] = &[
     (
-        SMALL,
-        SEQUENCE,
+        Source::Written(SMALL, &[]),
+        "c11ffcc1 80000000 70000000 01020000",
+    ),
+    (
+        Source::Written(SMALL, SEQUENCE),
         "c11ffcc1 c0000000 a8000000 01000000 00000000 02000000",
     ),
-    (SMALL, TEXT, "c11ffcc1 80000000 80000000 00486900"),
     (
-        CLOCKED,
-        &[],
+        Source::Written(SMALL, TEXT),
+        "c11ffcc1 80000000 80000000 00486900",
+    ),
+    (
+        Source::Written(CLOCKED, &[]),
         "c1fc1fc1 0200 0188 000000000000000a 000000000000000c 00 00 00 000000000000000a fffe 01 000000000000000b 6f6b00 000000000000000000000000000000",
     ),
 ];
 
-/// A front of the file has no packet, and only the empty one is whole.
-fn reads_each_cut(
-    rt: &impl Abort,
-    alloc: Global,
-    metadata: &Metadata,
-    file: &[u8],
-) -> Result<(), Fail>
-    requires { IsMetadata metadata.now }
-{
-    for end in 0..file.len() {
-        let (packets, ending) = ending(alloc, metadata, &file[..end])?;
-        let is_whole = ending == StreamEnding::Whole;
-        same(rt, (packets, is_whole), (0, end == 0), end);
-    }
-    Ok(())
-}
-
-/// With another byte at a place the file has its packet or none; where it has none it is not whole.
-fn reads_each_byte(
-    rt: &impl Abort,
-    alloc: Global,
-    metadata: &Metadata,
-    file: &mut [u8],
-    place: usize,
-) -> Result<(), Fail>
-    requires place { place < length file.old }
-    requires metadata { IsMetadata metadata.now }
-    ensures { length file.new ≡ length file.old }
-{
-    let own = file[place];
-    for byte in 0..=255 {
-        file[place] = byte;
-        let (packets, ending) = ending(alloc, metadata, file)?;
-        let is_none = packets == 0 && ending != StreamEnding::Whole;
-        same(rt, packets == 1 || is_none, true, (byte, place));
-    }
-    file[place] = own;
-    Ok(())
-}
-
 #[test]
 fn reads_files_that_are_cut_or_changed(rt: HostRuntime) -> Result<(), Fail> {
-    for (text, changes, digits) in FILES {
-        reads_file(
-            &rt,
-            rt.alloc(),
-            Source::Written(text, *changes, None),
-            digits,
-        )?;
+    for (source, digits) in FILES {
+        reads_file(&rt, rt.alloc(), source, digits)?;
     }
     Ok(())
 }
 
-fn reads_file(rt: &impl Abort, alloc: Global, source: Source, digits: &str) -> Result<(), Fail> {
-    let metadata = metadata_of(alloc, source)?;
-    reads_digits(rt, alloc, &metadata, digits)
-}
-
-fn reads_digits(
-    rt: &impl Abort,
-    alloc: Global,
-    metadata: &Metadata,
-    digits: &str,
-) -> Result<(), Fail>
-    requires { IsMetadata metadata.now }
-{
+fn reads_file(rt: &impl Abort, alloc: Global, source: &Source, digits: &str) -> Result<(), Fail> {
     let mut file = bytes_of(alloc, digits)?;
-    reads_each_cut(rt, alloc, metadata, file.as_slice())?;
-    reads_each_place(rt, alloc, metadata, file.as_mut_slice())
+    let metadata = metadata_of(alloc, source)?;
+    reads_each_place(rt, alloc, &metadata, file.as_mut_slice())
 }
 
 fn reads_each_place(
@@ -117,5 +64,32 @@ fn reads_each_place(
     for place in 0..file.len() {
         reads_each_byte(rt, alloc, metadata, file, place)?;
     }
+    Ok(())
+}
+
+/// The front of the file up to a place has no packet, and only the empty one is whole. With another byte there the file has its packet or none; where it has
+/// none it is not whole.
+fn reads_each_byte(
+    rt: &impl Abort,
+    alloc: Global,
+    metadata: &Metadata,
+    file: &mut [u8],
+    place: usize,
+) -> Result<(), Fail>
+    requires place { place < length file.old }
+    requires metadata { IsMetadata metadata.now }
+    ensures { length file.new ≡ length file.old }
+{
+    let (packets, end) = ending(alloc, metadata, &file[..place], false)?;
+    let is_whole = end == StreamEnding::Whole;
+    same(rt, (packets, is_whole), (0, place == 0), place);
+    let own = file[place];
+    for byte in 0..=255 {
+        file[place] = byte;
+        let (packets, end) = ending(alloc, metadata, file, false)?;
+        let is_none = packets == 0 && end != StreamEnding::Whole;
+        same(rt, packets == 1 || is_none, true, (byte, place));
+    }
+    file[place] = own;
     Ok(())
 }

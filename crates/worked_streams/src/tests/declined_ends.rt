@@ -1,63 +1,90 @@
-//! What a collector gathers by the end of a stream, where that end is given and where it is declined.
+//! What a collector gathers where a writer stops, and by the end of a stream, where that end is given and where it is declined.
 
 use crate::tests::expected::same;
-use crate::tests::rings::{FIRST, SECOND, packet};
-use packet_collector::{FinishAnswer, finish_into};
+use crate::tests::rings::packet;
+use packet_collector::{Collected, FinishAnswer, collect_into, finish_into};
 use std::alloc::Global;
 use std::process::Abort;
 use std::test::Fail;
 use thread_stream::StreamEnd;
-use trace_platform::{BackEnd, ListBackEnd, MemorySink, ScriptedSource};
-use worked_fixtures::bytes_of;
+use trace_platform::{
+    BackEnd, ListBackEnd, MemorySink, ScriptedSource, StoppingWriter, WriterSink,
+};
 
-/// A source in which one packet waits.
-fn source(alloc: Global) -> Result<ScriptedSource, Fail> {
-    let mut back_end = ListBackEnd::new(alloc, 1, 16)?;
-    if back_end.hand_over(packet(alloc, 1)?).is_err() {
+/// A source in which the packets of the numbers 1 and 2 wait, or the first alone.
+fn source(alloc: Global, both: bool) -> Result<ScriptedSource, Fail> {
+    let first = packet(alloc, 0, &[1])?;
+    let second = packet(alloc, 0, &[2])?;
+    let mut back_end = ListBackEnd::new(alloc, 2, 16)?;
+    let is_full = back_end.hand_over(first).is_err();
+    if is_full || both && back_end.hand_over(second).is_err() {
         return Err("a list that is full".into());
     }
     Ok(ScriptedSource::new(back_end))
 }
 
 /// Whether the end is given, what is answered then, and which packets the sink has.
-static ENDS: &[(bool, FinishAnswer, &[&str])] = &[
-    (true, FinishAnswer::Settled, &[FIRST, SECOND]),
-    (false, FinishAnswer::Unsettled, &[FIRST]),
+static ENDS: &[(bool, FinishAnswer, &str)] = &[
+    (
+        true,
+        FinishAnswer::Settled,
+        "c11ffcc1800000006800000001000000c11ffcc1800000006800000002000000",
+    ),
+    (
+        false,
+        FinishAnswer::Unsettled,
+        "c11ffcc1800000006800000001000000",
+    ),
 ];
 
 /// A packet waits in the source, and another was left behind.
 #[test]
 fn lets_the_last_packet_go_where_the_end_is_declined(rt: HostRuntime) -> Result<(), Fail> {
-    for (given, want, packets) in ENDS {
-        let packets = packets.concat(rt.alloc())?;
-        gathers(&rt, rt.alloc(), *given, *want, packets.as_str())?;
+    for (given, want, digits) in ENDS {
+        let (answer, faulted, found) = ended(rt.alloc(), *given)?;
+        same(&rt, (answer, faulted), (*want, false), *given);
+        same(&rt, found.as_str(), *digits, *given);
     }
     Ok(())
 }
 
-fn gathers(
-    rt: &impl Abort,
-    alloc: Global,
-    given: bool,
-    want: FinishAnswer,
-    packets: &str,
-) -> Result<(), Fail> {
+/// What is answered at the end of a stream that left the second packet behind, whether the sink faulted, and which packets it has.
+fn ended(alloc: Global, given: bool) -> Result<(FinishAnswer, bool, String), Fail> {
+    let left = packet(alloc, 0, &[2])?;
+    let mut source = source(alloc, false)?;
     let mut sink = MemorySink::new(alloc);
-    let answer = ended(alloc, &mut sink, given)?;
-    same(rt, answer, (want, false), given);
-    let bytes = bytes_of(alloc, packets)?;
-    same(rt, sink.bytes(), bytes.as_slice(), given);
+    let mut faulted = false;
+    let end = StreamEnd {
+        left: Some(left),
+        done: given,
+    };
+    let answer = finish_into(&mut sink, &mut faulted, &mut source, end);
+    Ok((answer, faulted, hex::encode(alloc, sink.bytes())?))
+}
+
+/// How many bytes a writer takes, and which of the two packets' these are.
+static STOPPED: &[(usize, &str)] = &[
+    (20, "c11ffcc1800000006800000001000000c11ffcc1"),
+    (16, "c11ffcc1800000006800000001000000"),
+];
+
+#[test]
+fn has_a_front_of_the_packets_where_a_writer_stops(rt: HostRuntime) -> Result<(), Fail> {
+    for (room, digits) in STOPPED {
+        let found = front(&rt, rt.alloc(), *room)?;
+        same(&rt, found.as_str(), *digits, *room);
+    }
     Ok(())
 }
 
-/// What is answered at the end of a stream that left the second packet behind, and whether the sink faulted.
-fn ended(alloc: Global, sink: &mut MemorySink, given: bool) -> Result<(FinishAnswer, bool), Fail> {
-    let mut source = source(alloc)?;
-    let end = StreamEnd {
-        left: Some(packet(alloc, 2)?),
-        done: given,
-    };
+/// What a writer has of both packets that takes 5 bytes at a time, and no more than there is room for. Its sink takes the first packet and faults at the second.
+fn front(rt: &impl Abort, alloc: Global, room: usize) -> Result<String, Fail> {
+    let mut source = source(alloc, true)?;
+    let mut sink = WriterSink::new(StoppingWriter::new(alloc, room, 5));
     let mut faulted = false;
-    let answer = finish_into(sink, &mut faulted, &mut source, end);
-    Ok((answer, faulted))
+    for want in [Collected::Took(0), Collected::Faulted, Collected::Faulted] {
+        let answer = collect_into(&mut sink, &mut faulted, &mut source);
+        same(rt, answer, want, "collected");
+    }
+    Ok(hex::encode(alloc, sink.into_writer().bytes.as_slice())?)
 }

@@ -1,65 +1,205 @@
-//! What is told of the packets of a stream file.
+//! What a reader finds in a stream file and no line of the program says: a packet's begin, end, number and extra members, times of no clock, the alignment of an
+//! event record's fields, and where a stream would go on behind the file.
 
-use ctf_types::{Metadata, ReadPacket};
-use packet_reader::{ReadStream, gaps, resume_point};
+ghost use Rattle.ctf_types.specs.Allowed.{IsMetadata};
+
+use crate::tests::expected::same;
+use crate::tests::stream_files::{Source, metadata_of};
+use ctf_types::{Metadata, Text, align_of};
+use packet_reader::{gaps, read_stream, resume_point};
 use std::alloc::{AllocError, Global};
+use std::test::Fail;
+use worked_fixtures::{CLOCKED, Changes, SMALL, bytes_of, granted};
 
-/// What is told of a file.
-#[derive(Clone, Copy)]
-pub enum Told {
-    /// How many records each packet has, and how the file ends.
-    Counts,
-    /// The packets in the form of `Debug`, and how the file ends.
-    Packets,
-    /// The clock values of the records of each packet, as far as they have some, and how the file ends.
-    Clocks,
-    /// The name of the clock, in brackets; nothing within them where there is none.
-    Clock,
-    /// How many packets do not follow the one before.
-    Gaps,
-    /// The point behind the file.
-    Point,
+const CPU: Changes = &[(
+    "EXTRAS",
+    r#"[{"cpu":{"field-type":{"class":"uint","size":8}}}]"#,
+)];
+
+const COUNTED: Changes = &[("DISCARDED", r#"{"class":"uint","size":32}"#)];
+
+/// A packet's begin of 64 bits, and a timestamp of 1, of no clock.
+const ONE_BIT: Changes = &[
+    (
+        "content_size;",
+        "content_size; integer { size = 64; } timestamp_begin;",
+    ),
+    (
+        "event.header := struct {",
+        "event.header := struct { integer { size = 1; } timestamp;",
+    ),
+];
+
+/// What metadata is read from, the bytes of a file in hexadecimal, and what is found: the clock, the gaps, the point behind it, its end and its packets.
+static FILES: &[(Source, &str, &str)] = &[
+    (
+        Source::Written(CLOCKED, &[]),
+        "c1fc1fc1 0200 0188 000000000000000a 000000000000000c 00 00 00 000000000000000a fffe 01 000000000000000b 6f6b00 000000000000000000000000000000",
+        "[clk] Some(0) Some(ResumePoint { stream: Some(0), sequence: 1, discarded: 0, floor: 12 }) Whole [ReadPacket { stream: 0, begin: Some(10), end: Some(12), sequence: Some(0), discarded: Some(0), extras: Values { items: [] }, records: ListOf { items: [Record { event: 0, clock: Some(10), common: Values { items: [] }, specific: Values { items: [] }, payload: Values { items: [Signed(-2)] } }, Record { event: 1, clock: Some(11), common: Values { items: [] }, specific: Values { items: [] }, payload: Values { items: [Text(Bytes { bytes: [111, 107] })] } }] } }]",
+    ),
+    (
+        Source::Written(CLOCKED, &[]),
+        "",
+        "[] None Some(ResumePoint { stream: None, sequence: 0, discarded: 0, floor: 0 }) Whole []",
+    ),
+    (
+        Source::Written(SMALL, CPU),
+        "c11ffcc1 80000000 70000000 03010000",
+        "[] None Some(ResumePoint { stream: Some(0), sequence: 1, discarded: 0, floor: 0 }) Whole [ReadPacket { stream: 0, begin: None, end: None, sequence: None, discarded: None, extras: Values { items: [Unsigned(3)] }, records: ListOf { items: [Record { event: 0, clock: None, common: Values { items: [] }, specific: Values { items: [] }, payload: Values { items: [Unsigned(1)] } }] } }]",
+    ),
+    (
+        Source::Written(SMALL, COUNTED),
+        "c11ffcc1 88000000 88000000 00000000 01 c11ffcc1 88000000 88000000 01000000 06",
+        "[] None Some(ResumePoint { stream: Some(0), sequence: 2, discarded: 1, floor: 0 }) Whole [ReadPacket { stream: 0, begin: None, end: None, sequence: None, discarded: Some(0), extras: Values { items: [] }, records: ListOf { items: [Record { event: 0, clock: None, common: Values { items: [] }, specific: Values { items: [] }, payload: Values { items: [Unsigned(1)] } }] } }, ReadPacket { stream: 0, begin: None, end: None, sequence: None, discarded: Some(1), extras: Values { items: [] }, records: ListOf { items: [Record { event: 0, clock: None, common: Values { items: [] }, specific: Values { items: [] }, payload: Values { items: [Unsigned(6)] } }] } }]",
+    ),
+    (
+        Source::Written(SMALL, &[]),
+        "c11ffcc1 80000000 60000000 00000000 c11ffcc1",
+        "[] None None Torn(16) [ReadPacket { stream: 0, begin: None, end: None, sequence: None, discarded: None, extras: Values { items: [] }, records: ListOf { items: [] } }]",
+    ),
+    // from 4 on at 4, 5, 5 and 6 by their last bits
+    (
+        Source::Elsewhere(ONE_BIT),
+        "c11ffcc1 e0000000 e0000000 0400000000000000 0001 0102 0103 0004",
+        "[] None Some(ResumePoint { stream: Some(0), sequence: 1, discarded: 0, floor: 6 }) Whole [ReadPacket { stream: 0, begin: Some(4), end: None, sequence: None, discarded: None, extras: Values { items: [] }, records: ListOf { items: [Record { event: 0, clock: Some(4), common: Values { items: [] }, specific: Values { items: [] }, payload: Values { items: [Unsigned(1)] } }, Record { event: 0, clock: Some(5), common: Values { items: [] }, specific: Values { items: [] }, payload: Values { items: [Unsigned(2)] } }, Record { event: 0, clock: Some(5), common: Values { items: [] }, specific: Values { items: [] }, payload: Values { items: [Unsigned(3)] } }, Record { event: 0, clock: Some(6), common: Values { items: [] }, specific: Values { items: [] }, payload: Values { items: [Unsigned(4)] } }] } }]",
+    ),
+    (
+        Source::Elsewhere(ONE_BIT),
+        "c11ffcc1 a0000000 a0000000 0400000000000000",
+        "[] None Some(ResumePoint { stream: Some(0), sequence: 1, discarded: 0, floor: 4 }) Whole [ReadPacket { stream: 0, begin: Some(4), end: None, sequence: None, discarded: None, extras: Values { items: [] }, records: ListOf { items: [] } }]",
+    ),
+];
+
+#[test]
+fn finds_what_no_line_says(rt: HostRuntime) -> Result<(), Fail> {
+    for (source, digits, want) in FILES {
+        let found = found(rt.alloc(), source, digits)?;
+        same(&rt, found.as_str(), *want, *digits);
+    }
+    Ok(())
 }
 
-pub fn shown(
-    alloc: Global,
-    what: Told,
-    metadata: &Metadata,
-    read: &ReadStream,
-) -> Result<String, AllocError> {
-    match what {
-        Told::Counts => counts(alloc, read),
-        Told::Packets => format!(in alloc; "{:?} {:?}", read.packets.as_slice(), read.end),
-        Told::Clocks => clocks(alloc, read),
-        Told::Clock => {
-            let clock = read.clock.as_ref().map_or("", |name| name.as_str());
-            format!(in alloc; "[{clock}]")
-        }
-        Told::Gaps => format!(in alloc; "{:?}", gaps(metadata, read)),
-        Told::Point => format!(in alloc; "{:?}", resume_point(metadata, read)),
-    }
+fn found(alloc: Global, source: &Source, digits: &str) -> Result<String, Fail> {
+    let bytes = bytes_of(alloc, digits)?;
+    let metadata = metadata_of(alloc, source)?;
+    granted(found_by(alloc, &metadata, bytes.as_slice()))
 }
 
-fn counts(alloc: Global, read: &ReadStream) -> Result<String, AllocError> {
-    let mut counts = Vec::new(alloc);
-    for packet in read.packets.as_slice() {
-        counts.push(packet.records.len())?;
-    }
-    format!(in alloc; "{:?} {:?}", counts.as_slice(), read.end)
+fn found_by(alloc: Global, metadata: &Metadata, bytes: &[u8]) -> Result<String, AllocError>
+    requires { IsMetadata metadata.now }
+{
+    let read = read_stream(alloc, metadata, Text::from_str(alloc, "a")?, bytes)?;
+    let clock = match &read.clock {
+        Some(clock) => clock.as_str(),
+        None => "",
+    };
+    let gaps = gaps(metadata, &read);
+    let point = resume_point(metadata, &read);
+    let packets = read.packets.as_slice();
+    format!(in alloc; "[{clock}] {gaps:?} {point:?} {:?} {packets:?}", read.end)
 }
 
-fn clocks(alloc: Global, read: &ReadStream) -> Result<String, AllocError> {
-    let mut packets = Vec::new(alloc);
-    for packet in read.packets.as_slice() {
-        packets.push(clocks_in(alloc, packet)?)?;
+/// The small configuration's payload, and its alignment in bits. The length of a dynamic array is a number of 32 bits, aligned to 8.
+static PAYLOADS: &[(Source, u32)] = &[
+    (
+        Source::Written(
+            SMALL,
+            &[(
+                "PAYLOAD",
+                r#"[{"x":{"field-type":{"class":"uint","size":1,"alignment":1}}}]"#,
+            )],
+        ),
+        1,
+    ),
+    (
+        Source::Written(
+            SMALL,
+            &[(
+                "PAYLOAD",
+                r#"[{"x":{"field-type":{"class":"static-array","length":3,"element-field-type":{"class":"uint","size":1,"alignment":1}}}}]"#,
+            )],
+        ),
+        1,
+    ),
+    (
+        Source::Written(
+            SMALL,
+            &[(
+                "PAYLOAD",
+                r#"[{"x":{"field-type":{"class":"dynamic-array","element-field-type":{"class":"uint","size":1,"alignment":1}}}}]"#,
+            )],
+        ),
+        8,
+    ),
+    (
+        Source::Written(
+            SMALL,
+            &[(
+                "PAYLOAD",
+                r#"[{"x":{"field-type":{"class":"dynamic-array","element-field-type":{"class":"static-array","length":3,"element-field-type":{"class":"uint","size":1,"alignment":1}}}}}]"#,
+            )],
+        ),
+        8,
+    ),
+    (
+        Source::Written(
+            SMALL,
+            &[(
+                "PAYLOAD",
+                r#"[{"x":{"field-type":{"class":"uint","size":1,"alignment":1}}},{"y":{"field-type":{"class":"dynamic-array","element-field-type":{"class":"uint","size":1,"alignment":1}}}}]"#,
+            )],
+        ),
+        8,
+    ),
+    (
+        Source::Written(
+            SMALL,
+            &[(
+                "PAYLOAD",
+                r#"[{"x":{"field-type":{"class":"dynamic-array","element-field-type":{"class":"uint","size":32,"alignment":32}}}}]"#,
+            )],
+        ),
+        32,
+    ),
+    (
+        Source::Written(
+            SMALL,
+            &[(
+                "PAYLOAD",
+                r#"[{"x":{"field-type":{"class":"uint","size":1,"alignment":1}}}],"minimum-alignment":4"#,
+            )],
+        ),
+        4,
+    ),
+    (
+        Source::Written(
+            SMALL,
+            &[(
+                "PAYLOAD",
+                r#"[{"x":{"field-type":{"class":"dynamic-array","element-field-type":{"class":"uint","size":1,"alignment":1}}}}],"minimum-alignment":4"#,
+            )],
+        ),
+        8,
+    ),
+];
+
+#[test]
+fn aligns_fields_that_are_read_back(rt: HostRuntime) -> Result<(), Fail> {
+    for (number, (source, align)) in PAYLOADS.iter().enumerate() {
+        let found = fields_align(rt.alloc(), source)?;
+        same(&rt, found, Some(*align), number);
     }
-    format!(in alloc; "{:?} {:?}", packets.as_slice(), read.end)
+    Ok(())
 }
 
-fn clocks_in(alloc: Global, packet: &ReadPacket) -> Result<Vec<u64>, AllocError> {
-    let mut clocks = Vec::new(alloc);
-    for record in packet.records.as_slice() {
-        clocks.extend_from_slice(record.clock.as_slice())?;
-    }
-    Ok(clocks)
+/// The alignment of the fields of the first event record type.
+fn fields_align(alloc: Global, source: &Source) -> Result<Option<u32>, Fail> {
+    let metadata = metadata_of(alloc, source)?;
+    Ok(first_align(&metadata))
+}
+
+fn first_align(metadata: &Metadata) -> Option<u32> {
+    let stream = metadata.streams.get(0)?;
+    let event = stream.events.get(0)?;
+    Some(align_of(&event.fields))
 }

@@ -1,12 +1,12 @@
 //! The program's own configuration is what its JSON configures.
 
 use crate::tests::expected::same;
-use conf_check::configure;
 use ctf_types::Config;
 use number_packets::small_config;
-use std::alloc::{AllocError, Global};
+use std::alloc::Global;
 use std::test::Fail;
 use tsdl_writer::write_metadata;
+use worked_fixtures::configuration;
 
 /// One stream type with one event record type of a byte.
 const SMALL: &str =
@@ -23,24 +23,21 @@ fn described(alloc: Global, config: &Config) -> Result<String, Fail> {
     Ok(text)
 }
 
-fn configured(alloc: Global) -> Result<String, Fail> {
-    match configure(alloc, SMALL.as_bytes(), None) {
-        Ok(config) => described(alloc, &config),
-        Err(fault) => Err(Fail::new(fault)),
-    }
-}
-
-fn own_text(alloc: Global) -> Result<String, AllocError> {
-    let mut text = write_metadata(alloc, &small_config(alloc)?)?;
-    text.push_str("s true 1\n")?;
-    Ok(text)
+/// The same of the configuration of this text, or of the program's own where there is none.
+fn described_of(alloc: Global, json: Option<&str>) -> Result<String, Fail> {
+    let config = match json {
+        Some(json) => configuration(alloc, json)?,
+        None => small_config(alloc)?,
+    };
+    described(alloc, &config)
 }
 
 /// They have the same metadata text, which says all of a configuration but the names of the stream types and of their default clocks, and these are the same.
 #[test]
 fn is_configured_by_its_json(rt: HostRuntime) -> Result<(), Fail> {
-    let expected = own_text(rt.alloc())?;
-    let found = configured(rt.alloc())?;
+    let expected = described_of(rt.alloc(), None)?;
+    let found = described_of(rt.alloc(), Some(SMALL))?;
     same(&rt, found.as_str(), expected.as_str(), SMALL);
+    same(&rt, found.as_str().ends_with("s true 1\n"), true, SMALL);
     Ok(())
 }

@@ -6,18 +6,21 @@ use crate::tests::expected::same;
 use crate::tests::stream_files::{Source, metadata_of};
 use ctf_types::{ListOf, Metadata, ReadPacket, Text, Values};
 use packet_reader::{ReadStop, StreamEnding, StreamReader};
-use std::alloc::Global;
+use std::alloc::{AllocError, Global};
 use std::io::{Error, ErrorKind, Read, Result as ReadResult};
+use std::process::Abort;
 use std::test::Fail;
-use worked_fixtures::{SMALL, bytes_of};
+use worked_fixtures::SMALL;
 
 /// Two packets of 16 bytes with two records each, of which the second is cut.
-const CUT: &str = "c11ffcc1 80000000 70000000 01020000 c11ffcc1";
+static CUT: &[u8] = &[
+    0xc1, 0x1f, 0xfc, 0xc1, 0x80, 0, 0, 0, 0x70, 0, 0, 0, 1, 2, 0, 0, 0xc1, 0x1f, 0xfc, 0xc1,
+];
 
 /// A reader of these bytes that gives so many by one read. It ends, or fails, once it has given `room` of them.
 #[derive(Drop)]
 struct Pieces {
-    bytes: Vec<u8>,
+    bytes: &'static [u8],
     given: usize,
     piece: usize,
     room: usize,
@@ -41,16 +44,6 @@ impl Read for Pieces {
     }
 }
 
-fn reader_of(alloc: Global, piece: usize, room: usize, fails: bool) -> Result<Pieces, Fail> {
-    Ok(Pieces {
-        bytes: bytes_of(alloc, CUT)?,
-        given: 0,
-        piece,
-        room,
-        fails,
-    })
-}
-
 /// The number of records in the next packet; None where no packet is left.
 pub fn next_records<R: Read>(reader: &mut StreamReader<'_, R>) -> Result<Option<usize>, ReadStop> {
     match reader.next_packet()? {
@@ -59,84 +52,7 @@ pub fn next_records<R: Read>(reader: &mut StreamReader<'_, R>) -> Result<Option<
     }
 }
 
-/// What three calls of a reader answer: each so many records, no packet or a stop, and then how the file ends.
-type Answers = ([Result<Option<usize>, ReadStop>; 3], Option<StreamEnding>);
-
-fn answers(alloc: Global, piece: usize, room: usize, fails: bool) -> Result<Answers, Fail> {
-    let metadata = metadata_of(alloc, Source::Written(SMALL, &[], None))?;
-    answers_by(alloc, &metadata, piece, room, fails)
-}
-
-fn answers_by(
-    alloc: Global,
-    metadata: &Metadata,
-    piece: usize,
-    room: usize,
-    fails: bool,
-) -> Result<Answers, Fail>
-    requires { IsMetadata metadata.now }
-{
-    let name = Text::from_str(alloc, "a")?;
-    let input = reader_of(alloc, piece, room, fails)?;
-    let mut reader = StreamReader::new(alloc, metadata, name, input);
-    let first = next_records(&mut reader);
-    let second = next_records(&mut reader);
-    let third = next_records(&mut reader);
-    Ok(([first, second, third], reader.end()))
-}
-
-#[test]
-fn reads_few_bytes_at_a_time(rt: HostRuntime) -> Result<(), Fail> {
-    for piece in [1, 7] {
-        let found = answers(rt.alloc(), piece, 20, false)?;
-        let calls = [Ok(Some(2)), Ok(None), Ok(None)];
-        same(&rt, found, (calls, Some(StreamEnding::Torn(16))), piece);
-    }
-    Ok(())
-}
-
-#[test]
-fn keeps_a_fault_of_the_reader(rt: HostRuntime) -> Result<(), Fail> {
-    let fault = ReadStop::ReaderFault;
-    let found = answers(rt.alloc(), 20, 16, true)?;
-    let calls = [Ok(Some(2)), Err(fault), Err(fault)];
-    same(&rt, found, (calls, None), "a fault");
-    Ok(())
-}
-
-#[test]
-fn refills_the_packet_in_hand(rt: HostRuntime) -> Result<(), Fail> {
-    let found = refills(rt.alloc())?;
-    same(&rt, found, [(true, 2), (false, 0), (false, 0)], "calls");
-    Ok(())
-}
-
-/// Whether each of three calls fills the packet, and how many records it has then.
-fn refills(alloc: Global) -> Result<[(bool, usize); 3], Fail> {
-    let metadata = metadata_of(alloc, Source::Written(SMALL, &[], None))?;
-    refills_by(alloc, &metadata)
-}
-
-fn refills_by(alloc: Global, metadata: &Metadata) -> Result<[(bool, usize); 3], Fail>
-    requires { IsMetadata metadata.now }
-{
-    let name = Text::from_str(alloc, "a")?;
-    let input = reader_of(alloc, 7, 20, false)?;
-    let mut packet = no_packet(alloc);
-    let mut reader = StreamReader::new(alloc, metadata, name, input);
-    three_refills(&mut reader, &mut packet)
-}
-
-fn three_refills(
-    reader: &mut StreamReader<'_, Pieces>,
-    packet: &mut ReadPacket,
-) -> Result<[(bool, usize); 3], Fail> {
-    let first = refilled(reader, packet)?;
-    let second = refilled(reader, packet)?;
-    let third = refilled(reader, packet)?;
-    Ok([first, second, third])
-}
-
+/// Whether the packet in hand is filled again, and how many records it has then.
 fn refilled(
     reader: &mut StreamReader<'_, Pieces>,
     packet: &mut ReadPacket,
@@ -145,8 +61,112 @@ fn refilled(
     Ok((given, packet.records.len()))
 }
 
-fn no_packet(alloc: Global) -> ReadPacket {
-    ReadPacket {
+/// What three calls answer, and how the file ends then.
+type Answers<T> = ([Result<T, ReadStop>; 3], Option<StreamEnding>);
+
+/// How many bytes one read gives, and how many all of them give, and whether the reader fails then; what calls for a packet answer, and what those answer that
+/// fill one in hand.
+static ROWS: &[(
+    usize,
+    usize,
+    bool,
+    Answers<Option<usize>>,
+    Answers<(bool, usize)>,
+)] = &[
+    (
+        1,
+        20,
+        false,
+        (
+            [Ok(Some(2)), Ok(None), Ok(None)],
+            Some(StreamEnding::Torn(16)),
+        ),
+        (
+            [Ok((true, 2)), Ok((false, 0)), Ok((false, 0))],
+            Some(StreamEnding::Torn(16)),
+        ),
+    ),
+    (
+        7,
+        20,
+        false,
+        (
+            [Ok(Some(2)), Ok(None), Ok(None)],
+            Some(StreamEnding::Torn(16)),
+        ),
+        (
+            [Ok((true, 2)), Ok((false, 0)), Ok((false, 0))],
+            Some(StreamEnding::Torn(16)),
+        ),
+    ),
+    (
+        20,
+        16,
+        true,
+        (
+            [
+                Ok(Some(2)),
+                Err(ReadStop::ReaderFault),
+                Err(ReadStop::ReaderFault),
+            ],
+            None,
+        ),
+        (
+            [
+                Ok((true, 2)),
+                Err(ReadStop::ReaderFault),
+                Err(ReadStop::ReaderFault),
+            ],
+            None,
+        ),
+    ),
+];
+
+#[test]
+fn reads_few_bytes_at_a_time_and_keeps_a_fault(rt: HostRuntime) -> Result<(), Fail> {
+    let metadata = metadata_of(rt.alloc(), &Source::Written(SMALL, &[]))?;
+    reads_rows(&rt, rt.alloc(), &metadata)
+}
+
+fn reads_rows(rt: &impl Abort, alloc: Global, metadata: &Metadata) -> Result<(), Fail>
+    requires { IsMetadata metadata.now }
+{
+    for (piece, room, fails, calls, fillings) in ROWS {
+        let input = pieces(*piece, *room, *fails);
+        let again = pieces(*piece, *room, *fails);
+        let found = answers(alloc, metadata, input, again)?;
+        same(rt, found, (*calls, *fillings), (*piece, *room));
+    }
+    Ok(())
+}
+
+fn pieces(piece: usize, room: usize, fails: bool) -> Pieces {
+    Pieces {
+        bytes: CUT,
+        given: 0,
+        piece,
+        room,
+        fails,
+    }
+}
+
+/// What three calls for a packet answer, and three that fill one in hand.
+fn answers(
+    alloc: Global,
+    metadata: &Metadata,
+    input: Pieces,
+    again: Pieces,
+) -> Result<(Answers<Option<usize>>, Answers<(bool, usize)>), AllocError>
+    requires { IsMetadata metadata.now }
+{
+    let name = Text::from_str(alloc, "a")?;
+    let other = Text::from_str(alloc, "b")?;
+    let mut reader = StreamReader::new(alloc, metadata, name, input);
+    let first = next_records(&mut reader);
+    let second = next_records(&mut reader);
+    let third = next_records(&mut reader);
+    let calls = ([first, second, third], reader.end());
+    let mut packet = ReadPacket {
         stream: 0,
         begin: None,
         end: None,
@@ -154,5 +174,10 @@ fn no_packet(alloc: Global) -> ReadPacket {
         discarded: None,
         extras: Values::new(alloc),
         records: ListOf::new(alloc),
-    }
+    };
+    let mut reader = StreamReader::new(alloc, metadata, other, again);
+    let first = refilled(&mut reader, &mut packet);
+    let second = refilled(&mut reader, &mut packet);
+    let third = refilled(&mut reader, &mut packet);
+    Ok((calls, ([first, second, third], reader.end())))
 }

@@ -10,7 +10,7 @@ use worked_fixtures::CLOCKED;
 /// What a call says that is out of memory, whatever it has for that itself.
 const OUT_OF_MEMORY: &str = "out of memory";
 
-const METADATA: Source = Source::Written(CLOCKED, &[], None);
+const METADATA: Source = Source::Written(CLOCKED, &[]);
 
 /// A packet of two event records.
 const FILE: &str =

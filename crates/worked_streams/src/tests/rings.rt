@@ -1,25 +1,22 @@
 //! A ring of packets, with both its ends in one thread: what comes back and what goes round.
 
-ghost use Rattle.std.specs.Prelude.{◌≡◌};
+ghost use Rattle.std.specs.Prelude.{◌≡◌, ◌≤◌, length};
 ghost use Rattle.ctf_types.specs.AllowedConfig.{IsConfig};
 ghost use Rattle.packet_ring.specs.Taking.{SameRing};
 
 use crate::tests::expected::same;
 use ctf_types::{Args, Config, Values};
+use number_packets::{small_config, trace_packet};
 use packet_ring::{RingBackEnd, RingEnd, ring};
 use packet_writer::Packet;
-use std::alloc::Global;
+use std::alloc::{AllocError, Global};
 use std::process::Abort;
 use std::test::Fail;
 use thread_stream::{PacketAnswer, Stream, Verdict, Why};
-use trace_platform::{BackEnd, ListBackEnd, ListClock, PacketSource};
+use trace_platform::{BackEnd, ListClock, PacketSource};
 use worked_fixtures::{Datum, bytes_of, payload, small};
 
 pub type RingStream = Stream<ListClock, RingBackEnd>;
-
-pub type ListStream = Stream<ListClock, ListBackEnd>;
-
-const EMPTY: &str = "c11ffcc1 80000000 60000000 00000000";
 
 /// A stream of the small configuration over this back end.
 pub fn stream<B: BackEnd + Drop>(alloc: Global, back_end: B) -> Result<Stream<ListClock, B>, Fail> {
@@ -39,11 +36,6 @@ fn begun<B: BackEnd + Drop>(
         Ok(stream) => Ok(stream),
         Err(refused) => Err(Fail::new(refused.fault)),
     }
-}
-
-/// A stream of the small configuration over a list of two buffers of 16 bytes.
-pub fn list_stream(alloc: Global) -> Result<ListStream, Fail> {
-    stream(alloc, ListBackEnd::new(alloc, 2, 16)?)
 }
 
 /// A stream of the small configuration over a ring of one place, and the ring's other end.
@@ -67,14 +59,6 @@ fn takes(source: &mut RingEnd, want: &[u8]) -> bool
     }
 }
 
-pub fn opened(stream: &mut RingStream) -> PacketAnswer {
-    stream.open_packet()
-}
-
-fn traced(stream: &mut RingStream, args: &Args) -> Verdict {
-    stream.trace(0, args)
-}
-
 /// Whether a packet without event records is opened and closed.
 pub fn makes_empty(stream: &mut RingStream) -> bool {
     stream.open_packet() == PacketAnswer::Done && stream.close_packet() == PacketAnswer::Done
@@ -94,46 +78,20 @@ fn ends(source: &mut RingEnd, want: &[u8]) -> bool {
     source.is_ended() && takes(source, want) && source.take().is_none()
 }
 
-const NINE: &str = "c11ffcc1 80000000 68000000 09000000";
-
-/// What is answered over a full ring to an opening and to a call, whether a packet of these bytes is taken, and what is answered to a call then.
-fn answers(
-    stream: &mut RingStream,
-    source: &mut RingEnd,
-    want: &[u8],
-    args: &Args,
-) -> (PacketAnswer, Verdict, bool, Verdict) {
-    let full = opened(stream);
-    let lost = traced(stream, args);
-    let taken = takes(source, want);
-    let held = traced(stream, args);
-    (full, lost, taken, held)
-}
-
+/// A full ring of one place hands the second packet back, and a call behind that leaves the third behind.
 #[test]
 fn holds_the_packet_that_a_ring_hands_back(rt: HostRuntime) -> Result<(), Fail> {
     let args = payload(rt.alloc(), &[Datum::Unsigned(9)])?;
-    let empty = bytes_of(rt.alloc(), EMPTY)?;
-    let nine = bytes_of(rt.alloc(), NINE)?;
-    holds(&rt, rt.alloc(), empty.as_slice(), nine.as_slice(), &args)
-}
-
-/// A full ring of one place hands the second packet back, and a call with these arguments leaves the third behind.
-fn holds(
-    rt: &impl Abort,
-    alloc: Global,
-    empty: &[u8],
-    nine: &[u8],
-    args: &Args,
-) -> Result<(), Fail> {
-    let (mut stream, mut ring_end) = ring_stream(alloc)?;
-    fills(rt, &mut stream, &mut ring_end, empty, args);
-    same(rt, leaves(stream, nine), true, "the packet that is left");
-    same(rt, ends(&mut ring_end, empty), true, "the last packet");
+    let empty = bytes_of(rt.alloc(), "c11ffcc1 80000000 60000000 00000000")?;
+    let nine = bytes_of(rt.alloc(), "c11ffcc1 80000000 68000000 09000000")?;
+    let (mut stream, mut ring_end) = ring_stream(rt.alloc())?;
+    fills(&rt, &mut stream, &mut ring_end, empty.as_slice(), &args);
+    same(&rt, leaves(stream, nine.as_slice()), true, "what is left");
+    same(&rt, ends(&mut ring_end, empty.as_slice()), true, "the last");
     Ok(())
 }
 
-/// Two packets fill the ring.
+/// Two packets without records fill the ring: no packet is opened, and a call is discarded until the first packet is taken.
 fn fills(
     rt: &impl Abort,
     stream: &mut RingStream,
@@ -143,32 +101,25 @@ fn fills(
 ) {
     same(rt, makes_empty(stream), true, "a packet");
     same(rt, makes_empty(stream), true, "a second packet");
+    same(rt, stream.open_packet(), PacketAnswer::Full, "a full ring");
     let lost = Verdict::Discarded(Why::BackEndFull);
-    let want = (PacketAnswer::Full, lost, true, Verdict::Accepted(None));
-    same(
-        rt,
-        answers(stream, ring_end, empty, args),
-        want,
-        "a full ring",
-    );
+    same(rt, stream.trace(0, args), lost, "a call that is lost");
+    same(rt, takes(ring_end, empty), true, "the first packet");
+    let held = Verdict::Accepted(None);
+    same(rt, stream.trace(0, args), held, "a call in a third packet");
 }
 
-/// A closed packet of 16 bytes with this number.
-pub fn packet(alloc: Global, number: u64) -> Result<Packet, Fail> {
-    let mut stream = list_stream(alloc)?;
-    closed_packet(alloc, &mut stream, number)
+/// A closed packet of 16 bytes with this number, and with an event record of each value.
+pub fn packet(alloc: Global, sequence: u64, values: &[u8]) -> Result<Packet, AllocError>
+    requires { length values.now ≤ 4 }
+{
+    let config = small_config(alloc)?;
+    trace_packet(alloc, &config, sequence, values)
 }
 
-fn closed_packet(alloc: Global, stream: &mut ListStream, number: u64) -> Result<Packet, Fail> {
-    let args = payload(alloc, &[Datum::Unsigned(number)])?;
-    stream.trace(0, &args);
-    stream.close_packet();
-    Ok(stream.take().ok_or("no packet")?)
-}
+const FIRST: &str = "c11ffcc1 80000000 68000000 01000000";
 
-pub const FIRST: &str = "c11ffcc1 80000000 68000000 01000000";
-
-pub const SECOND: &str = "c11ffcc1 80000000 68000000 02000000";
+const SECOND: &str = "c11ffcc1 80000000 68000000 02000000";
 
 /// A ring of one place: whether it takes the first packet, hands the second back, counts that, gives the first, takes the second then, settles, and gives
 /// the second and no more.
@@ -200,49 +151,30 @@ fn hands_over(alloc: Global, first: Packet, second: Packet) -> Result<[bool; 8],
 
 #[test]
 fn hands_over_in_order_and_settles(rt: HostRuntime) -> Result<(), Fail> {
-    let first = packet(rt.alloc(), 1)?;
-    let second = packet(rt.alloc(), 2)?;
+    let first = packet(rt.alloc(), 0, &[1])?;
+    let second = packet(rt.alloc(), 0, &[2])?;
     let answers = hands_over(rt.alloc(), first, second)?;
     same(&rt, answers, [true; 8], "answers");
     Ok(())
 }
 
-fn hands(alloc: Global, back_end: &mut RingBackEnd, number: u64) -> Result<bool, Fail> {
-    let packet = packet(alloc, number)?;
-    Ok(back_end.hand_over(packet).is_ok())
-}
-
-/// Each of three packets is taken or handed back.
-fn hands_three(rt: &impl Abort, alloc: Global, back_end: &mut RingBackEnd) -> Result<(), Fail> {
-    for (number, want) in [(1, true), (2, true), (3, false)] {
-        same(rt, hands(alloc, back_end, number)?, want, number);
-    }
-    Ok(())
-}
-
+/// A ring of two places has these two packets, and no third.
 #[test]
 fn hands_back_a_packet_while_its_places_are_taken(rt: HostRuntime) -> Result<(), Fail> {
-    let first = bytes_of(rt.alloc(), FIRST)?;
-    let second = bytes_of(rt.alloc(), SECOND)?;
-    hands_back_a_third(&rt, rt.alloc(), first.as_slice(), second.as_slice())
-}
-
-/// A ring of two places has these two packets, and no third.
-fn hands_back_a_third(
-    rt: &impl Abort,
-    alloc: Global,
-    first: &[u8],
-    second: &[u8],
-) -> Result<(), Fail> {
-    let (mut back_end, mut ring_end) = ring(alloc, 2, 16)?;
-    hands_three(rt, alloc, &mut back_end)?;
-    gives_both(rt, &mut ring_end, first, second);
-    Ok(())
-}
-
-/// A ring gives these two packets, and no more.
-fn gives_both(rt: &impl Abort, ring_end: &mut RingEnd, first: &[u8], second: &[u8]) {
-    let both = (takes(ring_end, first), takes(ring_end, second));
+    let first = packet(rt.alloc(), 0, &[1])?;
+    let second = packet(rt.alloc(), 0, &[2])?;
+    let third = packet(rt.alloc(), 0, &[3])?;
+    let first_bytes = bytes_of(rt.alloc(), FIRST)?;
+    let second_bytes = bytes_of(rt.alloc(), SECOND)?;
+    let (mut back_end, mut ring_end) = ring(rt.alloc(), 2, 16)?;
+    same(&rt, back_end.hand_over(first).is_ok(), true, "the first");
+    same(&rt, back_end.hand_over(second).is_ok(), true, "the second");
+    same(&rt, back_end.hand_over(third).is_ok(), false, "the third");
+    let both = (
+        takes(&mut ring_end, first_bytes.as_slice()),
+        takes(&mut ring_end, second_bytes.as_slice()),
+    );
     let no_more = ring_end.take().is_none();
-    same(rt, (both, no_more), ((true, true), true), "packets");
+    same(&rt, (both, no_more), ((true, true), true), "packets");
+    Ok(())
 }

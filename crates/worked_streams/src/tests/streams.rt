@@ -1,389 +1,379 @@
-//! Streams: what each call answers, and the bytes of the packets.
+//! Streams over lists: what their calls answer where no line of the program says so. Their buffers had other bytes before.
+
+ghost use Rattle.ctf_types.specs.AllowedConfig.{IsConfig};
 
 use crate::tests::expected::same;
-use crate::tests::stream_steps::{
-    Round, Row, START, Start, Step, all_run, list_back_end, made, start_fault, takes_rounds,
-};
-use ctf_types::ArgFault;
+use ctf_types::{ArgFault, Config};
 use std::alloc::Global;
 use std::process::Abort;
 use std::test::Fail;
-use thread_stream::{PacketAnswer, Stream, StreamFault, Verdict, Why};
+use thread_stream::{Stream, StreamFault};
 use trace_platform::{ListBackEnd, ListClock, PacketSource, Script, ScriptedBackEnd, Turn};
-use worked_fixtures::{CLOCKED, Changes, Datum, NARROW, bytes_of};
+use worked_fixtures::{
+    CLOCKED, Changes, NARROW, SMALL, call_in_words, changed, configured, values_in_words,
+};
 
-const STRING: Changes = &[("PAYLOAD", r#"[{"s":{"field-type":{"class":"str"}}}]"#)];
+/// What a stream is made from, and its calls.
+struct Row {
+    shows: &'static str,
+    /// `SMALL` or `CLOCKED`, and what is changed in it.
+    text: &'static str,
+    changes: Changes,
+    type_name: &'static str,
+    buffers: usize,
+    bytes: usize,
+    readings: &'static [u64],
+    /// The values of the extra members, with blanks between them.
+    extras: &'static str,
+    /// The number of the first packet, and how many event records count as discarded before it, where the stream goes on from an earlier one.
+    goes_on: Option<(u64, u64)>,
+    /// What becomes of the packets that the back end is handed.
+    handing: &'static [Turn],
+    /// Why there is no stream.
+    fault: Option<StreamFault>,
+    /// The calls, a line each, with what they answer.
+    calls: &'static str,
+}
 
-const REFUSES_A_ZERO_BYTE_IN_A_TEXT: &[Step] = &[
-    Step::Trace(0, &[Datum::Text(b"")], Verdict::Accepted(None)),
-    Step::Trace(
-        0,
-        &[Datum::Text(b"a\0b")],
-        Verdict::Misuse(ArgFault::ZeroByte),
-    ),
-    Step::Trace(0, &[Datum::Text(b"Hi")], Verdict::Accepted(None)),
-    Step::Packet(true, false, true),
-    Step::Close(PacketAnswer::Done),
-    Step::Collect("c11ffcc1 80000000 80000000 00486900"),
-];
-
-const DISCARDS_WHAT_IS_TOO_LARGE: &[Step] = &[
-    Step::Trace(0, &[Datum::Text(b"ab")], Verdict::Accepted(None)),
-    Step::Trace(
-        0,
-        &[Datum::Text(b"abcd")],
-        Verdict::Discarded(Why::TooLarge),
-    ),
-    Step::Trace(0, &[Datum::Text(b"")], Verdict::Accepted(None)),
-    Step::Discarded(1),
-    Step::Close(PacketAnswer::Done),
-    Step::Collect("c11ffcc1 80000000 80000000 61620000"),
-];
+/// The small configuration over two buffers of 16 bytes.
+const START: Row = Row {
+    shows: "",
+    text: SMALL,
+    changes: &[],
+    type_name: "s",
+    buffers: 2,
+    bytes: 16,
+    readings: &[],
+    extras: "",
+    goes_on: None,
+    handing: &[],
+    fault: None,
+    calls: "",
+};
 
 const COUNTED: Changes = &[("DISCARDED", r#"{"class":"uint","size":32}"#)];
 
-const COUNTS_WHAT_A_FULL_BACK_END_DISCARDS: &[Step] = &[
-    Step::Trace(0, &[Datum::Unsigned(1)], Verdict::Accepted(None)),
-    Step::Trace(0, &[Datum::Unsigned(2)], Verdict::Accepted(None)),
-    Step::Trace(0, &[Datum::Unsigned(3)], Verdict::Accepted(None)),
-    Step::Trace(0, &[Datum::Unsigned(4)], Verdict::Accepted(None)),
-    Step::Trace(
-        0,
-        &[Datum::Unsigned(5)],
-        Verdict::Discarded(Why::BackEndFull),
-    ),
-    Step::Collect("c11ffcc1 a0000000 a0000000 00000000 01020304"),
-    Step::Trace(0, &[Datum::Unsigned(6)], Verdict::Accepted(None)),
-    Step::Close(PacketAnswer::Done),
-    Step::Collect("c11ffcc1 a0000000 88000000 01000000 06000000"),
-    Step::CollectNothing,
-];
+/// Event records' timestamps of 8 bits.
+const BYTE: Changes = &[(
+    r#""event-record":{"#,
+    r#""event-record":{"timestamp-field-type":"u8","#,
+)];
 
-const ANSWERS_OUT_OF_TURN: &[Step] = &[
-    Step::Close(PacketAnswer::NotOpen),
-    Step::Open(PacketAnswer::Done),
-    Step::Open(PacketAnswer::AlreadyOpen),
-    Step::Enable(false),
-    Step::Trace(0, &[Datum::Unsigned(1)], Verdict::Disabled),
-    Step::Open(PacketAnswer::Disabled),
-    Step::Close(PacketAnswer::Disabled),
-    Step::Trace(0, &[Datum::Unsigned(256)], Verdict::Misuse(ArgFault::Range)),
-    Step::Enable(true),
-    Step::Trace(0, &[Datum::Unsigned(7)], Verdict::Accepted(None)),
-    Step::Close(PacketAnswer::Done),
-    Step::Discarded(0),
-    Step::Collect("c11ffcc1 80000000 68000000 07000000"),
-];
-
-/// A discard count of 257 and a packet number of 299 in fields of 8 bits.
-const REDUCED: &[Round] = &[
-    (
-        1,
-        &[
-            Step::Open(PacketAnswer::Done),
-            Step::Close(PacketAnswer::Done),
-        ],
-    ),
-    (
-        257,
-        &[Step::Trace(
-            0,
-            &[Datum::Unsigned(1)],
-            Verdict::Discarded(Why::BackEndFull),
-        )],
-    ),
-    (
-        1,
-        &[
-            Step::Collect("c11ffcc1 80000000 70000000 00000000"),
-            Step::Open(PacketAnswer::Done),
-            Step::Close(PacketAnswer::Done),
-            Step::Collect("c11ffcc1 80000000 70000000 01010000"),
-        ],
-    ),
-    (
-        297,
-        &[
-            Step::Open(PacketAnswer::Done),
-            Step::Close(PacketAnswer::Done),
-            Step::CollectAny,
-        ],
-    ),
-    (
-        1,
-        &[
-            Step::Open(PacketAnswer::Done),
-            Step::Close(PacketAnswer::Done),
-            Step::Collect("c11ffcc1 80000000 70000000 012b0000"),
-        ],
-    ),
-];
-
-/// Calls out of turn, and calls that a stream discards.
-static COUNTS: &[Row] = &[
-    (
-        "refuses a zero byte in a text",
-        Start {
-            changes: STRING,
-            ..START
-        },
-        &[(1, REFUSES_A_ZERO_BYTE_IN_A_TEXT)],
-    ),
-    (
-        "discards what is too large",
-        Start {
-            changes: STRING,
-            ..START
-        },
-        &[(1, DISCARDS_WHAT_IS_TOO_LARGE)],
-    ),
-    (
-        "counts what a full back end discards",
-        Start {
-            changes: COUNTED,
-            buffers: 1,
-            bytes: 20,
-            ..START
-        },
-        &[(1, COUNTS_WHAT_A_FULL_BACK_END_DISCARDS)],
-    ),
-    ("answers out of turn", START, &[(1, ANSWERS_OUT_OF_TURN)]),
-    (
-        "reduces counts to their fields",
-        Start {
-            changes: &[("DISCARDED", NARROW), ("SEQUENCE", NARROW)],
-            buffers: 1,
-            ..START
-        },
-        REDUCED,
-    ),
-];
-
-#[test]
-fn discards_and_counts(rt: HostRuntime) -> Result<(), Fail> {
-    all_run(&rt, rt.alloc(), COUNTS)
-}
-
-const WRITES_EXTRA_MEMBERS: &[Step] = &[
-    Step::Trace(0, &[Datum::Unsigned(1)], Verdict::Accepted(None)),
-    Step::Close(PacketAnswer::Done),
-    Step::Collect("c11ffcc1 80000000 70000000 03010000"),
-    Step::Extras(
-        &[Datum::Unsigned(256)],
-        Some(StreamFault::BadExtras(ArgFault::Range)),
-    ),
-];
-
-const SETS_EXTRA_MEMBERS_THAT_HAVE_ROOM: &[Step] = &[
-    Step::Extras(&[Datum::Text(b"abc")], None),
-    Step::Extras(&[Datum::Text(b"abcd")], Some(StreamFault::BufferTooSmall)),
-];
-
-const READS_ITS_CLOCK: &[Step] = &[
-    Step::Trace(0, &[Datum::Signed(-2)], Verdict::Accepted(Some(10))),
-    Step::Trace(1, &[Datum::Text(b"ok")], Verdict::Accepted(Some(11))),
-    Step::Close(PacketAnswer::Done),
-    Step::Collect(
-        "c1fc1fc1 0200 0188 000000000000000a 000000000000000c 00 00 00 000000000000000a fffe 01 000000000000000b 6f6b00 000000000000000000000000000000",
-    ),
-    Step::Trace(1, &[Datum::Text(b"")], Verdict::Discarded(Why::ClockSpent)),
-    Step::Open(PacketAnswer::ClockSpent),
-    Step::Discarded(1),
-    Step::Sequence(1),
-];
-
-const NO_TIMESTAMPS: Changes = &[
-    (
-        r#"{"packet":{"#,
-        r#"{"packet":{"beginning-timestamp-field-type":false,"end-timestamp-field-type":false,"#,
-    ),
-    (
-        r#""event-record":{"#,
-        r#""event-record":{"timestamp-field-type":false,"#,
-    ),
-];
-
-/// A clock is read, and its reading answered, also where no field holds it.
-const READS_ITS_CLOCK_WITHOUT_A_TIMESTAMP_FIELD: &[Step] = &[
-    Step::Trace(1, &[Datum::Text(b"ok")], Verdict::Accepted(Some(10))),
-    Step::Trace(
-        1,
-        &[Datum::Text(b"ok")],
-        Verdict::Discarded(Why::ClockSpent),
-    ),
-];
-
-/// Streams with extra members, or with a clock.
-static EXTRAS_AND_CLOCKS: &[Row] = &[
-    (
-        "writes extra members",
-        Start {
-            changes: &[(
-                "EXTRAS",
-                r#"[{"cpu":{"field-type":{"class":"uint","size":8}}}]"#,
-            )],
-            extras: &[Datum::Unsigned(3)],
-            ..START
-        },
-        &[(1, WRITES_EXTRA_MEMBERS)],
-    ),
-    (
-        "sets extra members that have room",
-        Start {
-            changes: &[("EXTRAS", r#"[{"n":{"field-type":{"class":"str"}}}]"#)],
-            extras: &[Datum::Text(b"")],
-            ..START
-        },
-        &[(1, SETS_EXTRA_MEMBERS_THAT_HAVE_ROOM)],
-    ),
-    (
-        "reads its clock",
-        Start {
-            text: CLOCKED,
-            bytes: 64,
-            readings: &[10, 11, 12],
-            ..START
-        },
-        &[(1, READS_ITS_CLOCK)],
-    ),
-    (
-        "reads its clock without a timestamp field",
-        Start {
-            text: CLOCKED,
-            changes: NO_TIMESTAMPS,
-            bytes: 64,
-            readings: &[10],
-            ..START
-        },
-        &[(1, READS_ITS_CLOCK_WITHOUT_A_TIMESTAMP_FIELD)],
-    ),
-];
-
-#[test]
-fn writes_extra_members_and_clock_values(rt: HostRuntime) -> Result<(), Fail> {
-    all_run(&rt, rt.alloc(), EXTRAS_AND_CLOCKS)
-}
-
-const HELD: &[Step] = &[
-    Step::Trace(0, &[Datum::Unsigned(1)], Verdict::Accepted(None)),
-    Step::Trace(0, &[Datum::Unsigned(2)], Verdict::Accepted(None)),
-    Step::Trace(0, &[Datum::Unsigned(3)], Verdict::Accepted(None)),
-    Step::Trace(0, &[Datum::Unsigned(4)], Verdict::Accepted(None)),
-    Step::Trace(
-        0,
-        &[Datum::Unsigned(5)],
-        Verdict::Discarded(Why::BackEndFull),
-    ),
-    Step::Trace(0, &[Datum::Unsigned(6)], Verdict::Accepted(None)),
-    Step::Close(PacketAnswer::Done),
-    Step::Collect("c11ffcc1 a0000000 a0000000 00000000 01020304"),
-    Step::Collect("c11ffcc1 a0000000 88000000 01000000 06000000"),
-];
-
-/// The back end hands the first packet back, and takes all after it.
-static HANDED_BACK: Row = (
-    "holds a packet that comes back",
-    Start {
-        changes: COUNTED,
-        bytes: 20,
+static ROWS: &[Row] = &[
+    Row {
+        shows: "what stood in a buffer is in no packet",
+        calls: "
+trace 0 1 -> Accepted(None)
+trace 0 2 -> Accepted(None)
+close -> Done
+collect -> c11ffcc1800000007000000001020000
+collect -> none",
         ..START
     },
-    &[(1, HELD)],
-);
-
-#[test]
-fn holds_a_packet_that_comes_back(rt: HostRuntime) -> Result<(), Fail> {
-    runs_handed_back(&rt, rt.alloc())
-}
-
-fn runs_handed_back(rt: &impl Abort, alloc: Global) -> Result<(), Fail> {
-    let mut stream = made(alloc, &HANDED_BACK.1, handing_back(alloc)?)?;
-    takes_rounds(rt, alloc, &mut stream, &HANDED_BACK)
-}
-
-/// A list that hands the first packet back.
-fn handing_back(alloc: Global) -> Result<ScriptedBackEnd, Fail> {
-    let fails = Vec::from_slice(alloc, &[Turn::Fails])?;
-    let list = list_back_end(alloc, &HANDED_BACK.1)?;
-    let looking = Script::new(Vec::new(alloc));
-    Ok(ScriptedBackEnd::new(list, looking, Script::new(fails)))
-}
-
-/// Two event records in a packet that stays open.
-static UNFINISHED: Row = (
-    "finishes an open packet",
-    START,
-    &[(
-        1,
-        &[
-            Step::Trace(0, &[Datum::Unsigned(1)], Verdict::Accepted(None)),
-            Step::Trace(0, &[Datum::Unsigned(2)], Verdict::Accepted(None)),
-        ],
-    )],
-);
-
-#[test]
-fn finishes_an_open_packet(rt: HostRuntime) -> Result<(), Fail> {
-    let bytes = bytes_of(rt.alloc(), "c11ffcc1 80000000 70000000 01020000")?;
-    let handed_over = finishes(&rt, rt.alloc(), bytes.as_slice())?;
-    same(&rt, handed_over, true, "a packet");
-    Ok(())
-}
-
-/// Whether the unfinished stream hands these bytes over at its end.
-fn finishes(rt: &impl Abort, alloc: Global, bytes: &[u8]) -> Result<bool, Fail> {
-    let back_end = list_back_end(alloc, &START)?;
-    let mut stream = made(alloc, &UNFINISHED.1, back_end)?;
-    takes_rounds(rt, alloc, &mut stream, &UNFINISHED)?;
-    Ok(hands_over_at_the_end(stream, bytes))
-}
-
-/// Whether the stream's end leaves no packet, and hands one of these bytes over.
-fn hands_over_at_the_end(stream: Stream<ListClock, ListBackEnd>, bytes: &[u8]) -> bool {
-    let (end, _clock) = stream.finish();
-    let leaves_none = end.left.is_none();
-    let mut back_end = end.done;
-    match back_end.take() {
-        None => false,
-        Some(packet) => leaves_none && packet.bytes() == bytes,
-    }
-}
-
-/// What a stream is made from, and its fault. A packet of as many bytes as header and context have is large enough.
-static STARTS: &[(Start, Option<StreamFault>)] = &[
-    (Start { bytes: 12, ..START }, None),
-    (
-        Start { bytes: 11, ..START },
-        Some(StreamFault::BufferTooSmall),
-    ),
-    (
-        Start {
-            changes: &[("SIZE", NARROW)],
-            bytes: 32,
-            ..START
-        },
-        Some(StreamFault::SizeField),
-    ),
-    (
-        Start {
-            type_name: "t",
-            ..START
-        },
-        Some(StreamFault::NoSuchStream),
-    ),
-    (
-        Start {
-            extras: &[Datum::Unsigned(1)],
-            ..START
-        },
-        Some(StreamFault::BadExtras(ArgFault::Count)),
-    ),
+    Row {
+        shows: "a packet without an event record, and no packet",
+        calls: "
+open -> Done
+packet -> open true, empty true, full false
+close -> Done
+packet -> open false, empty false, full false
+collect -> c11ffcc1800000006000000000000000",
+        ..START
+    },
+    Row {
+        shows: "a packet that is full, behind a text with a zero byte",
+        changes: &[("PAYLOAD", r#"[{"s":{"field-type":{"class":"str"}}}]"#)],
+        calls: "
+trace 0 a\0b -> Misuse(ZeroByte)
+trace 0 abc -> Accepted(None)
+packet -> open true, empty false, full true",
+        ..START
+    },
+    Row {
+        shows: "what is too large counts as discarded",
+        changes: &[("PAYLOAD", r#"[{"s":{"field-type":{"class":"str"}}}]"#)],
+        calls: "
+trace 0 ab -> Accepted(None)
+trace 0 abcd -> Discarded(TooLarge)
+discarded -> 1",
+        ..START
+    },
+    Row {
+        shows: "calls out of turn do not",
+        calls: "
+close -> NotOpen
+open -> Done
+disable -> set
+trace 0 1 -> Disabled
+open -> Disabled
+trace 0 256 -> Misuse(Range)
+enable -> set
+trace 0 7 -> Accepted(None)
+discarded -> 0",
+        ..START
+    },
+    Row {
+        shows: "extra members that do not fit are refused",
+        changes: &[(
+            "EXTRAS",
+            r#"[{"cpu":{"field-type":{"class":"uint","size":8}}}]"#,
+        )],
+        extras: "3",
+        calls: "
+trace 0 1 -> Accepted(None)
+close -> Done
+collect -> c11ffcc1800000007000000003010000
+extras 256 -> Some(BadExtras(Range))",
+        ..START
+    },
+    Row {
+        shows: "extra members are set where they have room",
+        changes: &[("EXTRAS", r#"[{"n":{"field-type":{"class":"str"}}}]"#)],
+        extras: "a",
+        calls: "
+extras abc -> None
+extras abcd -> Some(BufferTooSmall)",
+        ..START
+    },
+    Row {
+        shows: "a call without a reading is discarded, and opens no packet",
+        text: CLOCKED,
+        bytes: 64,
+        readings: &[10, 11, 12],
+        calls: "
+trace 0 -2 -> Accepted(Some(10))
+trace 1 ok -> Accepted(Some(11))
+close -> Done
+trace 1 ok -> Discarded(ClockSpent)
+open -> ClockSpent
+discarded -> 1
+next -> 1",
+        ..START
+    },
+    Row {
+        shows: "a pause behind an event record opens a packet",
+        text: CLOCKED,
+        changes: BYTE,
+        bytes: 64,
+        readings: &[10, 200, 300, 301],
+        calls: "
+trace 0 -2 -> Accepted(Some(10))
+trace 1 abcdefghijklmnopqrstuvwxyz0123456789 -> Discarded(TooLarge)
+packet -> open true, empty false, full false
+trace 0 +1 -> Accepted(Some(300))
+packet -> open true, empty false, full false",
+        ..START
+    },
+    Row {
+        shows: "a discarded call leaves a packet empty",
+        text: CLOCKED,
+        changes: BYTE,
+        bytes: 64,
+        readings: &[10, 200, 266, 267],
+        calls: "
+open -> Done
+trace 1 abcdefghijklmnopqrstuvwxyz0123456789 -> Discarded(TooLarge)
+packet -> open true, empty true, full false",
+        ..START
+    },
+    Row {
+        shows: "a pause without a buffer leaves no packet open",
+        text: CLOCKED,
+        changes: BYTE,
+        buffers: 1,
+        bytes: 64,
+        readings: &[10, 600, 601, 602],
+        calls: "
+trace 0 -2 -> Accepted(Some(10))
+trace 0 +1 -> Discarded(BackEndFull)
+packet -> open false, empty false, full false",
+        ..START
+    },
+    Row {
+        shows: "a packet that comes back is held, and goes before the next one",
+        changes: COUNTED,
+        bytes: 20,
+        handing: &[Turn::Fails],
+        calls: "
+trace 0 1 -> Accepted(None)
+trace 0 2 -> Accepted(None)
+trace 0 3 -> Accepted(None)
+trace 0 4 -> Accepted(None)
+trace 0 5 -> Discarded(BackEndFull)
+trace 0 6 -> Accepted(None)
+close -> Done
+collect -> c11ffcc1a0000000a00000000000000001020304
+collect -> c11ffcc1a0000000880000000100000006000000",
+        ..START
+    },
+    Row {
+        shows: "a stream goes on from an earlier one",
+        changes: COUNTED,
+        buffers: 1,
+        bytes: 20,
+        goes_on: Some((2, 1)),
+        calls: "
+next -> 2
+discarded -> 1
+trace 0 7 -> Accepted(None)
+close -> Done
+collect -> c11ffcc1a0000000880000000100000007000000
+collect -> none",
+        ..START
+    },
+    Row {
+        shows: "a count of 257 and a number of 300 are reduced to fields of 8 bits",
+        changes: &[("DISCARDED", NARROW), ("SEQUENCE", NARROW)],
+        buffers: 1,
+        goes_on: Some((299, 256)),
+        calls: "
+open -> Done
+close -> Done
+trace 0 1 -> Discarded(BackEndFull)
+collect -> c11ffcc18000000070000000002b0000
+open -> Done
+close -> Done
+collect -> c11ffcc18000000070000000012c0000
+discarded -> 257
+next -> 301",
+        ..START
+    },
+    Row {
+        shows: "no such data stream type",
+        type_name: "t",
+        fault: Some(StreamFault::NoSuchStream),
+        ..START
+    },
+    Row {
+        shows: "a packet without room for header and context",
+        bytes: 11,
+        fault: Some(StreamFault::BufferTooSmall),
+        ..START
+    },
+    Row {
+        shows: "a size field that does not hold the bits of a packet",
+        changes: &[("SIZE", NARROW)],
+        bytes: 32,
+        fault: Some(StreamFault::SizeField),
+        ..START
+    },
+    Row {
+        shows: "extra members where there are none",
+        extras: "1",
+        fault: Some(StreamFault::BadExtras(ArgFault::Count)),
+        ..START
+    },
 ];
 
 #[test]
-fn refuses_to_start(rt: HostRuntime) -> Result<(), Fail> {
-    for (start, fault) in STARTS {
-        same(&rt, start_fault(rt.alloc(), start)?, *fault, *fault);
+fn answers_each_call(rt: HostRuntime) -> Result<(), Fail> {
+    for row in ROWS {
+        runs(&rt, rt.alloc(), row)?;
     }
     Ok(())
+}
+
+fn runs(rt: &impl Abort, alloc: Global, row: &Row) -> Result<(), Fail> {
+    let text = changed(alloc, row.text, row.changes)?;
+    let config = configured(alloc, text.as_str(), None)?;
+    runs_by(rt, alloc, row, &config)
+}
+
+/// The stream of a row is refused, or each of its calls answers what the row says.
+fn runs_by(rt: &impl Abort, alloc: Global, row: &Row, config: &Config) -> Result<(), Fail>
+    requires { IsConfig config.now }
+{
+    let readings = Vec::from_slice(alloc, row.readings)?;
+    let clock = ListClock::new(readings).ok_or("readings that fall")?;
+    let extras = values_in_words(alloc, row.extras)?;
+    let back_end = back_end(alloc, row)?;
+    let name = row.type_name;
+    let made = match row.goes_on {
+        None => Stream::new(alloc, config, name, clock, back_end, extras),
+        Some((sequence, discarded)) => Stream::resume(
+            alloc, config, name, clock, back_end, extras, sequence, discarded,
+        ),
+    };
+    match made {
+        Ok(mut stream) => {
+            same(rt, None, row.fault, row.shows);
+            answers_all(rt, alloc, &mut stream, row)
+        }
+        Err(refused) => {
+            same(rt, Some(refused.fault), row.fault, row.shows);
+            Ok(())
+        }
+    }
+}
+
+/// The row's buffers in a list, which hands packets back as the row says.
+fn back_end(alloc: Global, row: &Row) -> Result<ScriptedBackEnd, Fail> {
+    let buffers = row.buffers;
+    let bytes = row.bytes;
+    if buffers == 0 || buffers > 1024 || bytes == 0 || bytes > 1 << 20 {
+        return Err("no such back end".into());
+    }
+    let handing = Script::new(Vec::from_slice(alloc, row.handing)?);
+    let list = ListBackEnd::filled(alloc, buffers, bytes, 0xff)?;
+    let looking = Script::new(Vec::new(alloc));
+    Ok(ScriptedBackEnd::new(list, looking, handing))
+}
+
+type ScriptedStream = Stream<ListClock, ScriptedBackEnd>;
+
+fn answers_all(
+    rt: &impl Abort,
+    alloc: Global,
+    stream: &mut ScriptedStream,
+    row: &Row,
+) -> Result<(), Fail> {
+    for line in row.calls.trim().lines() {
+        let (call, want) = line.split_once(" -> ").ok_or("a call without an answer")?;
+        let found = answer(alloc, stream, call)?;
+        same(rt, found.as_str(), want, (row.shows, line));
+    }
+    Ok(())
+}
+
+/// What a call answers, or what is told of the stream.
+fn answer(alloc: Global, stream: &mut ScriptedStream, call: &str) -> Result<String, Fail> {
+    let (word, data) = call.split_once(" ").unwrap_or((call, ""));
+    let said = match word {
+        "trace" => {
+            let (event, args) = call_in_words(alloc, data)?;
+            format!(in alloc; "{:?}", stream.trace(event, &args))
+        }
+        "open" => format!(in alloc; "{:?}", stream.open_packet()),
+        "close" => format!(in alloc; "{:?}", stream.close_packet()),
+        "enable" | "disable" => {
+            stream.set_enabled(word == "enable");
+            String::from_str(alloc, "set")
+        }
+        "extras" => match stream.set_extras(values_in_words(alloc, data)?) {
+            Ok(()) => String::from_str(alloc, "None"),
+            Err(refused) => format!(in alloc; "Some({:?})", refused.fault),
+        },
+        "packet" => {
+            let (is_open, is_empty) = (stream.packet_is_open(), stream.packet_is_empty());
+            let is_full = stream.packet_is_full();
+            format!(in alloc; "open {is_open}, empty {is_empty}, full {is_full}")
+        }
+        "discarded" => format!(in alloc; "{}", stream.discarded_count()),
+        "next" => format!(in alloc; "{}", stream.sequence_number()),
+        "collect" => return collected(alloc, stream),
+        _ => return Err("no such call".into()),
+    };
+    Ok(said?)
+}
+
+/// The bytes of the next packet in hexadecimal, whose buffer goes back.
+fn collected(alloc: Global, stream: &mut ScriptedStream) -> Result<String, Fail> {
+    match stream.take() {
+        None => Ok(String::from_str(alloc, "none")?),
+        Some(packet) => {
+            let digits = hex::encode(alloc, packet.bytes())?;
+            stream.give_back(packet.into_buf());
+            Ok(digits)
+        }
+    }
 }

@@ -22,34 +22,24 @@ fn both_ends(alloc: Global) -> Result<(RingBackEnd, RingEnd), Fail> {
     }
 }
 
-/// A stream of what was handed back.
-fn begun_again(
-    alloc: Global,
-    config: &Config,
-    refused: NotMade<ListClock, RingBackEnd>,
-) -> Result<RingStream, Fail>
+/// A stream; where memory was wanting, of what was handed back.
+fn begun(alloc: Global, config: &Config, back_end: RingBackEnd) -> Result<RingStream, Fail>
     requires { IsConfig config.now }
 {
+    let clock = ListClock::new(Vec::new(alloc)).ok_or("readings that fall")?;
     let NotMade {
         fault,
         clock,
         back_end,
         extras,
-    } = refused;
+    } = match Stream::new(alloc, config, "s", clock, back_end, Values::new(alloc)) {
+        Ok(stream) => return Ok(stream),
+        Err(refused) => refused,
+    };
     if fault != StreamFault::OutOfMemory {
         return Err("another refusal".into());
     }
     at_last(Stream::new(alloc, config, "s", clock, back_end, extras))
-}
-
-fn begun(alloc: Global, config: &Config, back_end: RingBackEnd) -> Result<RingStream, Fail>
-    requires { IsConfig config.now }
-{
-    let clock = ListClock::new(Vec::new(alloc)).ok_or("readings that fall")?;
-    match Stream::new(alloc, config, "s", clock, back_end, Values::new(alloc)) {
-        Ok(stream) => Ok(stream),
-        Err(refused) => begun_again(alloc, config, refused),
-    }
 }
 
 /// A collector with one sink, which has room for a packet.
@@ -65,13 +55,6 @@ fn collector(alloc: Global) -> Result<Collector<MemorySink>, Fail>
         Ok(_) => Ok(collector),
         Err(_) => Err("a second refusal".into()),
     }
-}
-
-/// A packet goes from the stream to the sink.
-fn collected(collector: &mut Collector<MemorySink>, ring_end: &mut RingEnd) -> Collected
-    requires { 0 < length collector.old }
-{
-    collector.collect(0, ring_end)
 }
 
 #[test]
@@ -107,5 +90,5 @@ fn answers_over(
 {
     let mut stream = begun(alloc, config, back_end)?;
     let made = makes_empty(&mut stream);
-    Ok((made, collected(collector, &mut ring_end)))
+    Ok((made, collector.collect(0, &mut ring_end)))
 }

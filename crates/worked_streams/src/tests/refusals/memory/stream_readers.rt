@@ -21,24 +21,18 @@ fn goes_on(
 ) -> Result<(), Fail> {
     let answer = next_records(reader);
     if answer == Err(ReadStop::OutOfMemory) {
-        stays_stopped(rt, reader);
+        same(rt, next_records(reader), answer, "a stopped reader");
+        same(rt, next_records(reader), answer, "a stopped reader");
+        same(rt, reader.end(), None, "the end of a stopped reader");
         return Err(Fail::new(OUT_OF_MEMORY));
     }
     same(rt, answer, Ok(want), "a packet");
     Ok(())
 }
 
-fn stays_stopped(rt: &impl Abort, reader: &mut StreamReader<'_, &[u8]>) {
-    for _ in 0..3 {
-        let answer = next_records(reader);
-        same(rt, answer, Err(ReadStop::OutOfMemory), "a stopped reader");
-    }
-    same(rt, reader.end(), None, "the end of a stopped reader");
-}
-
 #[test]
 fn reads_packet_by_packet(rt: HostRuntime) -> Result<(), Fail> {
-    let metadata = metadata_of(rt.alloc(), METADATA)?;
+    let metadata = metadata_of(rt.alloc(), &METADATA)?;
     reads_by(&rt, rt.alloc(), &metadata)
 }
 
