@@ -30,43 +30,133 @@ const ONE_BIT: Changes = &[
     ),
 ];
 
-/// What metadata is read from, the bytes of a file in hexadecimal, and what is found: the clock, the gaps, the point behind it, its end and its packets.
+/// What metadata is read from, the bytes of a file in hexadecimal, and what is found: the alignment of the
+/// fields of the first event record type, the clock, the gaps, the point behind it, its end and its packets.
 static FILES: &[(Source, &str, &str)] = &[
     (
         Source::Written(CLOCKED, &[]),
         "c1fc1fc1 0200 0188 000000000000000a 000000000000000c 00 00 00 000000000000000a fffe 01 000000000000000b 6f6b00 000000000000000000000000000000",
-        "[clk] Some(0) Some(ResumePoint { stream: Some(0), sequence: 1, discarded: 0, floor: 12 }) Whole [ReadPacket { stream: 0, begin: Some(10), end: Some(12), sequence: Some(0), discarded: Some(0), extras: Values { items: [] }, records: ListOf { items: [Record { event: 0, clock: Some(10), common: Values { items: [] }, specific: Values { items: [] }, payload: Values { items: [Signed(-2)] } }, Record { event: 1, clock: Some(11), common: Values { items: [] }, specific: Values { items: [] }, payload: Values { items: [Text(Bytes { bytes: [111, 107] })] } }] } }]",
+        "8 [clk] Some(0) Some(ResumePoint { stream: Some(0), sequence: 1, discarded: 0, floor: 12 }) Whole [ReadPacket { stream: 0, begin: Some(10), end: Some(12), sequence: Some(0), discarded: Some(0), extras: Values { items: [] }, records: ListOf { items: [Record { event: 0, clock: Some(10), common: Values { items: [] }, specific: Values { items: [] }, payload: Values { items: [Signed(-2)] } }, Record { event: 1, clock: Some(11), common: Values { items: [] }, specific: Values { items: [] }, payload: Values { items: [Text(Bytes { bytes: [111, 107] })] } }] } }]",
     ),
     (
         Source::Written(CLOCKED, &[]),
         "",
-        "[] None Some(ResumePoint { stream: None, sequence: 0, discarded: 0, floor: 0 }) Whole []",
+        "8 [] None Some(ResumePoint { stream: None, sequence: 0, discarded: 0, floor: 0 }) Whole []",
     ),
     (
         Source::Written(SMALL, CPU),
         "c11ffcc1 80000000 70000000 03010000",
-        "[] None Some(ResumePoint { stream: Some(0), sequence: 1, discarded: 0, floor: 0 }) Whole [ReadPacket { stream: 0, begin: None, end: None, sequence: None, discarded: None, extras: Values { items: [Unsigned(3)] }, records: ListOf { items: [Record { event: 0, clock: None, common: Values { items: [] }, specific: Values { items: [] }, payload: Values { items: [Unsigned(1)] } }] } }]",
+        "8 [] None Some(ResumePoint { stream: Some(0), sequence: 1, discarded: 0, floor: 0 }) Whole [ReadPacket { stream: 0, begin: None, end: None, sequence: None, discarded: None, extras: Values { items: [Unsigned(3)] }, records: ListOf { items: [Record { event: 0, clock: None, common: Values { items: [] }, specific: Values { items: [] }, payload: Values { items: [Unsigned(1)] } }] } }]",
     ),
     (
         Source::Written(SMALL, COUNTED),
         "c11ffcc1 88000000 88000000 00000000 01 c11ffcc1 88000000 88000000 01000000 06",
-        "[] None Some(ResumePoint { stream: Some(0), sequence: 2, discarded: 1, floor: 0 }) Whole [ReadPacket { stream: 0, begin: None, end: None, sequence: None, discarded: Some(0), extras: Values { items: [] }, records: ListOf { items: [Record { event: 0, clock: None, common: Values { items: [] }, specific: Values { items: [] }, payload: Values { items: [Unsigned(1)] } }] } }, ReadPacket { stream: 0, begin: None, end: None, sequence: None, discarded: Some(1), extras: Values { items: [] }, records: ListOf { items: [Record { event: 0, clock: None, common: Values { items: [] }, specific: Values { items: [] }, payload: Values { items: [Unsigned(6)] } }] } }]",
+        "8 [] None Some(ResumePoint { stream: Some(0), sequence: 2, discarded: 1, floor: 0 }) Whole [ReadPacket { stream: 0, begin: None, end: None, sequence: None, discarded: Some(0), extras: Values { items: [] }, records: ListOf { items: [Record { event: 0, clock: None, common: Values { items: [] }, specific: Values { items: [] }, payload: Values { items: [Unsigned(1)] } }] } }, ReadPacket { stream: 0, begin: None, end: None, sequence: None, discarded: Some(1), extras: Values { items: [] }, records: ListOf { items: [Record { event: 0, clock: None, common: Values { items: [] }, specific: Values { items: [] }, payload: Values { items: [Unsigned(6)] } }] } }]",
     ),
     (
         Source::Written(SMALL, &[]),
         "c11ffcc1 80000000 60000000 00000000 c11ffcc1",
-        "[] None None Torn(16) [ReadPacket { stream: 0, begin: None, end: None, sequence: None, discarded: None, extras: Values { items: [] }, records: ListOf { items: [] } }]",
+        "8 [] None None Torn(16) [ReadPacket { stream: 0, begin: None, end: None, sequence: None, discarded: None, extras: Values { items: [] }, records: ListOf { items: [] } }]",
     ),
     // from 4 on at 4, 5, 5 and 6 by their last bits
     (
         Source::Elsewhere(ONE_BIT),
         "c11ffcc1 e0000000 e0000000 0400000000000000 0001 0102 0103 0004",
-        "[] None Some(ResumePoint { stream: Some(0), sequence: 1, discarded: 0, floor: 6 }) Whole [ReadPacket { stream: 0, begin: Some(4), end: None, sequence: None, discarded: None, extras: Values { items: [] }, records: ListOf { items: [Record { event: 0, clock: Some(4), common: Values { items: [] }, specific: Values { items: [] }, payload: Values { items: [Unsigned(1)] } }, Record { event: 0, clock: Some(5), common: Values { items: [] }, specific: Values { items: [] }, payload: Values { items: [Unsigned(2)] } }, Record { event: 0, clock: Some(5), common: Values { items: [] }, specific: Values { items: [] }, payload: Values { items: [Unsigned(3)] } }, Record { event: 0, clock: Some(6), common: Values { items: [] }, specific: Values { items: [] }, payload: Values { items: [Unsigned(4)] } }] } }]",
+        "8 [] None Some(ResumePoint { stream: Some(0), sequence: 1, discarded: 0, floor: 6 }) Whole [ReadPacket { stream: 0, begin: Some(4), end: None, sequence: None, discarded: None, extras: Values { items: [] }, records: ListOf { items: [Record { event: 0, clock: Some(4), common: Values { items: [] }, specific: Values { items: [] }, payload: Values { items: [Unsigned(1)] } }, Record { event: 0, clock: Some(5), common: Values { items: [] }, specific: Values { items: [] }, payload: Values { items: [Unsigned(2)] } }, Record { event: 0, clock: Some(5), common: Values { items: [] }, specific: Values { items: [] }, payload: Values { items: [Unsigned(3)] } }, Record { event: 0, clock: Some(6), common: Values { items: [] }, specific: Values { items: [] }, payload: Values { items: [Unsigned(4)] } }] } }]",
     ),
     (
         Source::Elsewhere(ONE_BIT),
         "c11ffcc1 a0000000 a0000000 0400000000000000",
-        "[] None Some(ResumePoint { stream: Some(0), sequence: 1, discarded: 0, floor: 4 }) Whole [ReadPacket { stream: 0, begin: Some(4), end: None, sequence: None, discarded: None, extras: Values { items: [] }, records: ListOf { items: [] } }]",
+        "8 [] None Some(ResumePoint { stream: Some(0), sequence: 1, discarded: 0, floor: 4 }) Whole [ReadPacket { stream: 0, begin: Some(4), end: None, sequence: None, discarded: None, extras: Values { items: [] }, records: ListOf { items: [] } }]",
+    ),
+    // the length of a dynamic array is a number of 32 bits, aligned to 8
+    (
+        Source::Written(
+            SMALL,
+            &[(
+                "PAYLOAD",
+                r#"[{"x":{"field-type":{"class":"uint","size":1,"alignment":1}}}]"#,
+            )],
+        ),
+        "",
+        "1 [] None Some(ResumePoint { stream: None, sequence: 0, discarded: 0, floor: 0 }) Whole []",
+    ),
+    (
+        Source::Written(
+            SMALL,
+            &[(
+                "PAYLOAD",
+                r#"[{"x":{"field-type":{"class":"static-array","length":3,"element-field-type":{"class":"uint","size":1,"alignment":1}}}}]"#,
+            )],
+        ),
+        "",
+        "1 [] None Some(ResumePoint { stream: None, sequence: 0, discarded: 0, floor: 0 }) Whole []",
+    ),
+    (
+        Source::Written(
+            SMALL,
+            &[(
+                "PAYLOAD",
+                r#"[{"x":{"field-type":{"class":"dynamic-array","element-field-type":{"class":"uint","size":1,"alignment":1}}}}]"#,
+            )],
+        ),
+        "",
+        "8 [] None Some(ResumePoint { stream: None, sequence: 0, discarded: 0, floor: 0 }) Whole []",
+    ),
+    (
+        Source::Written(
+            SMALL,
+            &[(
+                "PAYLOAD",
+                r#"[{"x":{"field-type":{"class":"dynamic-array","element-field-type":{"class":"static-array","length":3,"element-field-type":{"class":"uint","size":1,"alignment":1}}}}}]"#,
+            )],
+        ),
+        "",
+        "8 [] None Some(ResumePoint { stream: None, sequence: 0, discarded: 0, floor: 0 }) Whole []",
+    ),
+    (
+        Source::Written(
+            SMALL,
+            &[(
+                "PAYLOAD",
+                r#"[{"x":{"field-type":{"class":"uint","size":1,"alignment":1}}},{"y":{"field-type":{"class":"dynamic-array","element-field-type":{"class":"uint","size":1,"alignment":1}}}}]"#,
+            )],
+        ),
+        "",
+        "8 [] None Some(ResumePoint { stream: None, sequence: 0, discarded: 0, floor: 0 }) Whole []",
+    ),
+    (
+        Source::Written(
+            SMALL,
+            &[(
+                "PAYLOAD",
+                r#"[{"x":{"field-type":{"class":"dynamic-array","element-field-type":{"class":"uint","size":32,"alignment":32}}}}]"#,
+            )],
+        ),
+        "",
+        "32 [] None Some(ResumePoint { stream: None, sequence: 0, discarded: 0, floor: 0 }) Whole []",
+    ),
+    (
+        Source::Written(
+            SMALL,
+            &[(
+                "PAYLOAD",
+                r#"[{"x":{"field-type":{"class":"uint","size":1,"alignment":1}}}],"minimum-alignment":4"#,
+            )],
+        ),
+        "",
+        "4 [] None Some(ResumePoint { stream: None, sequence: 0, discarded: 0, floor: 0 }) Whole []",
+    ),
+    (
+        Source::Written(
+            SMALL,
+            &[(
+                "PAYLOAD",
+                r#"[{"x":{"field-type":{"class":"dynamic-array","element-field-type":{"class":"uint","size":1,"alignment":1}}}}],"minimum-alignment":4"#,
+            )],
+        ),
+        "",
+        "8 [] None Some(ResumePoint { stream: None, sequence: 0, discarded: 0, floor: 0 }) Whole []",
     ),
 ];
 
@@ -96,108 +186,14 @@ fn found_by(alloc: Global, metadata: &Metadata, bytes: &[u8]) -> Result<String, 
     let gaps = gaps(metadata, &read);
     let point = resume_point(metadata, &read);
     let packets = read.packets.as_slice();
-    format!(in alloc; "[{clock}] {gaps:?} {point:?} {:?} {packets:?}", read.end)
-}
-
-/// The small configuration's payload, and its alignment in bits. The length of a dynamic array is a number of 32 bits, aligned to 8.
-static PAYLOADS: &[(Source, u32)] = &[
-    (
-        Source::Written(
-            SMALL,
-            &[(
-                "PAYLOAD",
-                r#"[{"x":{"field-type":{"class":"uint","size":1,"alignment":1}}}]"#,
-            )],
-        ),
-        1,
-    ),
-    (
-        Source::Written(
-            SMALL,
-            &[(
-                "PAYLOAD",
-                r#"[{"x":{"field-type":{"class":"static-array","length":3,"element-field-type":{"class":"uint","size":1,"alignment":1}}}}]"#,
-            )],
-        ),
-        1,
-    ),
-    (
-        Source::Written(
-            SMALL,
-            &[(
-                "PAYLOAD",
-                r#"[{"x":{"field-type":{"class":"dynamic-array","element-field-type":{"class":"uint","size":1,"alignment":1}}}}]"#,
-            )],
-        ),
-        8,
-    ),
-    (
-        Source::Written(
-            SMALL,
-            &[(
-                "PAYLOAD",
-                r#"[{"x":{"field-type":{"class":"dynamic-array","element-field-type":{"class":"static-array","length":3,"element-field-type":{"class":"uint","size":1,"alignment":1}}}}}]"#,
-            )],
-        ),
-        8,
-    ),
-    (
-        Source::Written(
-            SMALL,
-            &[(
-                "PAYLOAD",
-                r#"[{"x":{"field-type":{"class":"uint","size":1,"alignment":1}}},{"y":{"field-type":{"class":"dynamic-array","element-field-type":{"class":"uint","size":1,"alignment":1}}}}]"#,
-            )],
-        ),
-        8,
-    ),
-    (
-        Source::Written(
-            SMALL,
-            &[(
-                "PAYLOAD",
-                r#"[{"x":{"field-type":{"class":"dynamic-array","element-field-type":{"class":"uint","size":32,"alignment":32}}}}]"#,
-            )],
-        ),
-        32,
-    ),
-    (
-        Source::Written(
-            SMALL,
-            &[(
-                "PAYLOAD",
-                r#"[{"x":{"field-type":{"class":"uint","size":1,"alignment":1}}}],"minimum-alignment":4"#,
-            )],
-        ),
-        4,
-    ),
-    (
-        Source::Written(
-            SMALL,
-            &[(
-                "PAYLOAD",
-                r#"[{"x":{"field-type":{"class":"dynamic-array","element-field-type":{"class":"uint","size":1,"alignment":1}}}}],"minimum-alignment":4"#,
-            )],
-        ),
-        8,
-    ),
-];
-
-#[test]
-fn aligns_fields_that_are_read_back(rt: HostRuntime) -> Result<(), Fail> {
-    for (number, (source, align)) in PAYLOADS.iter().enumerate() {
-        let found = fields_align(rt.alloc(), source)?;
-        same(&rt, found, Some(*align), number);
-    }
-    Ok(())
+    let align = first_align(metadata).unwrap_or(0);
+    format!(in alloc;
+        "{align} [{clock}] {gaps:?} {point:?} {:?} {packets:?}",
+        read.end
+    )
 }
 
 /// The alignment of the fields of the first event record type.
-fn fields_align(alloc: Global, source: &Source) -> Result<Option<u32>, Fail> {
-    let metadata = metadata_of(alloc, source)?;
-    Ok(first_align(&metadata))
-}
-
 fn first_align(metadata: &Metadata) -> Option<u32> {
     let stream = metadata.streams.get(0)?;
     let event = stream.events.get(0)?;

@@ -132,22 +132,24 @@ fn reads_rows(rt: &impl Abort, alloc: Global, metadata: &Metadata) -> Result<(),
     requires { IsMetadata metadata.now }
 {
     for (piece, room, fails, calls, fillings) in ROWS {
-        let input = pieces(*piece, *room, *fails);
-        let again = pieces(*piece, *room, *fails);
+        let input = Pieces {
+            bytes: CUT,
+            given: 0,
+            piece: *piece,
+            room: *room,
+            fails: *fails,
+        };
+        let again = Pieces {
+            bytes: CUT,
+            given: 0,
+            piece: *piece,
+            room: *room,
+            fails: *fails,
+        };
         let found = answers(alloc, metadata, input, again)?;
         same(rt, found, (*calls, *fillings), (*piece, *room));
     }
     Ok(())
-}
-
-fn pieces(piece: usize, room: usize, fails: bool) -> Pieces {
-    Pieces {
-        bytes: CUT,
-        given: 0,
-        piece,
-        room,
-        fails,
-    }
 }
 
 /// What three calls for a packet answer, and three that fill one in hand.

@@ -19,9 +19,12 @@ fn makes_rings_at_their_limits(rt: HostRuntime) -> Result<(), Fail> {
     Ok(())
 }
 
-/// The longest packet of a list; and its most buffers with the shortest one: it lends 1024, and is full then.
+/// The longest buffer and the shortest; the longest packet of a list; and its most buffers with the shortest one: it lends 1024, and is full then.
 #[test]
-fn makes_lists_at_their_limits(rt: HostRuntime) -> Result<(), Fail> {
+fn makes_lists_and_buffers_at_their_limits(rt: HostRuntime) -> Result<(), Fail> {
+    let longest = PacketBuf::new(rt.alloc(), 1 << 20)?.len();
+    let shortest = PacketBuf::new(rt.alloc(), 1)?.len();
+    same(&rt, (longest, shortest), (1 << 20, 1), "bytes");
     let mut longest = ListBackEnd::new(rt.alloc(), 1, 1 << 20)?;
     same(&rt, lent_length(&mut longest), Some(1 << 20), "the longest");
     let mut most = ListBackEnd::new(rt.alloc(), 1024, 1)?;
@@ -29,14 +32,6 @@ fn makes_lists_at_their_limits(rt: HostRuntime) -> Result<(), Fail> {
         same(&rt, lent_length(&mut most), Some(1), number);
     }
     same(&rt, most.is_full(), true, "all are lent");
-    Ok(())
-}
-
-#[test]
-fn makes_buffers_at_their_limits(rt: HostRuntime) -> Result<(), Fail> {
-    let longest = PacketBuf::new(rt.alloc(), 1 << 20)?.len();
-    let shortest = PacketBuf::new(rt.alloc(), 1)?.len();
-    same(&rt, (longest, shortest), (1 << 20, 1), "bytes");
     Ok(())
 }
 

@@ -73,11 +73,6 @@ fn leaves(stream: RingStream, want: &[u8]) -> bool {
     }
 }
 
-/// Whether the other end is ended, and the last packet is these bytes.
-fn ends(source: &mut RingEnd, want: &[u8]) -> bool {
-    source.is_ended() && takes(source, want) && source.take().is_none()
-}
-
 /// A full ring of one place hands the second packet back, and a call behind that leaves the third behind.
 #[test]
 fn holds_the_packet_that_a_ring_hands_back(rt: HostRuntime) -> Result<(), Fail> {
@@ -87,7 +82,15 @@ fn holds_the_packet_that_a_ring_hands_back(rt: HostRuntime) -> Result<(), Fail> 
     let (mut stream, mut ring_end) = ring_stream(rt.alloc())?;
     fills(&rt, &mut stream, &mut ring_end, empty.as_slice(), &args);
     same(&rt, leaves(stream, nine.as_slice()), true, "what is left");
-    same(&rt, ends(&mut ring_end, empty.as_slice()), true, "the last");
+    let is_ended = ring_end.is_ended();
+    let is_last = takes(&mut ring_end, empty.as_slice());
+    let is_all = ring_end.take().is_none();
+    same(
+        &rt,
+        (is_ended, is_last, is_all),
+        (true, true, true),
+        "the end",
+    );
     Ok(())
 }
 
