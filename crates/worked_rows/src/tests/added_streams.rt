@@ -1,94 +1,188 @@
 //! Streams that a session takes, and those that it refuses.
 
 use crate::tests::expected::same;
-use crate::tests::session_steps::{Prepared, SOURCE, Source, with, with_name, without_streams};
+use crate::tests::session_steps::{Listed, TWO_TYPES, back_end, clock, sink};
+use packet_reader::ResumePoint;
 use std::alloc::Global;
 use std::process::Abort;
 use std::test::Fail;
-use worked_fixtures::small;
+use trace_stack::Session;
+use worked_fixtures::{configured, granted, values_in_words};
 
-/// A session of the small configuration, without streams.
-fn small_session(alloc: Global) -> Result<Prepared, Fail> {
-    Ok(without_streams(alloc, small(alloc, &[])?))
+/// A stream that is to be added behind those before it.
+struct Added {
+    shows: &'static str,
+    name: &'static str,
+    type_name: &'static str,
+    /// The number of the data stream type whose packet its file has: the stream goes on behind that.
+    behind: Option<usize>,
+    /// Why it is not added.
+    fault: &'static str,
 }
 
-/// What a row shows, the name of a stream that is added behind those before it, the name of its type, and why it is not added.
-static ADDED: &[(&str, &str, &str, &str)] = &[
-    (
-        "the name of the metadata's file",
-        "metadata",
-        "s",
-        "Name(BadName)",
-    ),
-    (
-        "a name that begins with a digit",
-        "9a",
-        "s",
-        "Name(BadName)",
-    ),
-    ("a bad name before a bad type", "", "t", "Name(BadName)"),
-    ("a first stream", "a", "s", ""),
-    ("a name twice", "a", "s", "Name(SameName)"),
-    ("a name twice before a bad type", "a", "t", "Name(SameName)"),
-    ("no such type", "b", "t", "Stream(NoSuchStream)"),
-    ("the name of a stream that was refused", "b", "s", ""),
+/// A stream of the type `plain` without a file.
+const PLAIN: Added = Added {
+    shows: "",
+    name: "a",
+    type_name: "plain",
+    behind: None,
+    fault: "",
+};
+
+static ADDED: &[Added] = &[
+    Added {
+        shows: "the name of the metadata's file",
+        name: "metadata",
+        fault: "Name(BadName)",
+        ..PLAIN
+    },
+    Added {
+        shows: "a name that begins with a digit",
+        name: "9a",
+        fault: "Name(BadName)",
+        ..PLAIN
+    },
+    Added {
+        shows: "a bad name before a bad type",
+        name: "",
+        type_name: "t",
+        fault: "Name(BadName)",
+        ..PLAIN
+    },
+    Added {
+        shows: "a first stream",
+        ..PLAIN
+    },
+    Added {
+        shows: "a name twice",
+        fault: "Name(SameName)",
+        ..PLAIN
+    },
+    Added {
+        shows: "a name twice before a bad type",
+        type_name: "t",
+        fault: "Name(SameName)",
+        ..PLAIN
+    },
+    Added {
+        shows: "no such type",
+        name: "b",
+        type_name: "t",
+        fault: "Stream(NoSuchStream)",
+        ..PLAIN
+    },
+    Added {
+        shows: "the name of a stream that was refused",
+        name: "b",
+        ..PLAIN
+    },
+    Added {
+        shows: "packets of another data stream type",
+        name: "p",
+        behind: Some(1),
+        fault: "WrongStream",
+        ..PLAIN
+    },
+    Added {
+        shows: "a bad name before packets of another data stream type",
+        name: "9",
+        behind: Some(1),
+        fault: "Name(BadName)",
+        ..PLAIN
+    },
+    Added {
+        shows: "no such type behind packets",
+        name: "p",
+        type_name: "t",
+        behind: Some(0),
+        fault: "Stream(NoSuchStream)",
+        ..PLAIN
+    },
+    Added {
+        shows: "packets of its own type",
+        name: "p",
+        behind: Some(0),
+        ..PLAIN
+    },
+];
+
+/// Streams behind 64.
+static BEHIND_64: &[Added] = &[
+    Added {
+        shows: "a stream more",
+        name: "s64",
+        fault: "Name(TooMany)",
+        ..PLAIN
+    },
+    Added {
+        shows: "a name twice before a stream more",
+        name: "s63",
+        fault: "Name(SameName)",
+        ..PLAIN
+    },
+    Added {
+        shows: "a bad name before a stream more",
+        name: "9",
+        fault: "Name(BadName)",
+        ..PLAIN
+    },
 ];
 
 #[test]
 fn refuses_streams_by_their_first_fault(rt: HostRuntime) -> Result<(), Fail> {
-    let mut session = small_session(rt.alloc())?;
-    all_added(&rt, rt.alloc(), &mut session)
-}
-
-fn all_added(rt: &impl Abort, alloc: Global, session: &mut Prepared) -> Result<(), Fail> {
-    for (shows, name, type_name, want) in ADDED {
-        let source = Source {
-            name: *name,
-            type_name: *type_name,
-            ..SOURCE
-        };
-        let fault = with(alloc, session, &source)?;
-        same(rt, fault.as_str(), *want, *shows);
-    }
-    Ok(())
-}
-
-#[test]
-fn takes_64_streams(rt: HostRuntime) -> Result<(), Fail> {
-    let mut session = small_session(rt.alloc())?;
+    let mut session = Session::new(rt.alloc(), configured(rt.alloc(), TWO_TYPES, None)?);
     takes_64(&rt, rt.alloc(), &mut session)
 }
 
-fn takes_64(rt: &impl Abort, alloc: Global, session: &mut Prepared) -> Result<(), Fail> {
-    for number in 0..64 {
-        let name = format!(in alloc; "s{number}")?;
-        is_added(rt, alloc, session, (name.as_str(), ""))?;
-    }
-    refuses_more(rt, alloc, session)
+fn takes_64(rt: &impl Abort, alloc: Global, session: &mut Listed) -> Result<(), Fail> {
+    all_added(rt, alloc, session, ADDED)?;
+    fills(rt, alloc, session)?;
+    all_added(rt, alloc, session, BEHIND_64)
 }
 
-fn refuses_more(rt: &impl Abort, alloc: Global, session: &mut Prepared) -> Result<(), Fail> {
-    for row in BEHIND_64 {
-        is_added(rt, alloc, session, *row)?;
-    }
-    Ok(())
-}
-
-/// Names behind 64 streams, and why each is not added.
-static BEHIND_64: &[(&str, &str)] = &[
-    ("s64", "Name(TooMany)"),
-    ("s0", "Name(SameName)"),
-    ("9", "Name(BadName)"),
-];
-
-/// A stream of this name is added, or refused as these words say.
-fn is_added(
+fn all_added(
     rt: &impl Abort,
     alloc: Global,
-    session: &mut Prepared,
-    (name, want): (&str, &str),
+    session: &mut Listed,
+    rows: &[Added],
 ) -> Result<(), Fail> {
-    let fault = with_name(alloc, session, name, &SOURCE)?;
-    same(rt, fault.as_str(), want, name);
+    for row in rows {
+        let fault = fault_of(alloc, session, row.name, row)?;
+        same(rt, fault.as_str(), row.fault, row.shows);
+    }
     Ok(())
+}
+
+/// Adds streams until there are 64.
+fn fills(rt: &impl Abort, alloc: Global, session: &mut Listed) -> Result<(), Fail> {
+    for number in session.stream_count()..64 {
+        let name = format!(in alloc; "s{number}")?;
+        let fault = fault_of(alloc, session, name.as_str(), &PLAIN)?;
+        same(rt, fault.as_str(), "", number);
+    }
+    Ok(())
+}
+
+/// Why a stream of this name is not added; no words where it is.
+fn fault_of(alloc: Global, session: &mut Listed, name: &str, row: &Added) -> Result<String, Fail> {
+    let clock = clock(alloc, &[])?;
+    let back_end = back_end(alloc, 1, 17)?;
+    let sink = sink(alloc, false)?;
+    let extras = values_in_words(alloc, "3")?;
+    let answer = match row.behind {
+        None => session.add_stream(name, row.type_name, clock, back_end, sink, extras),
+        Some(number) => {
+            let point = ResumePoint {
+                stream: Some(number),
+                sequence: 1,
+                discarded: 0,
+                floor: 0,
+            };
+            session.resume_stream(name, row.type_name, clock, back_end, sink, extras, point)
+        }
+    };
+    match answer {
+        Ok(_) => Ok(String::new(alloc)),
+        Err(refused) => granted(format!(in alloc; "{:?}", refused.fault)),
+    }
 }

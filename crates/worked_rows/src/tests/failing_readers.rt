@@ -1,16 +1,24 @@
 //! Whole traces, read from readers of which one fails on the way: the first one in the list is answered, and nothing is given.
 
 use crate::tests::expected::same;
-use crate::tests::printed_traces::metadata_of;
 use packet_reader::ReadStop;
 use std::alloc::Global;
 use std::io::{Error, ErrorKind, Read, Result as ReadResult};
 use std::test::Fail;
-use trace_stack::{TraceFault, read_trace_from};
-use worked_fixtures::{SMALL, bytes_of};
+use trace_stack::{ReadTrace, TraceFault, read_trace_from};
+use tsdl_writer::write_metadata;
+use worked_fixtures::{SMALL, bytes_of, changed, configured, granted};
+
+/// The stream files of a trace: the name of each, and its bytes in hexadecimal.
+pub type Inputs = &'static [(&'static str, &'static str)];
 
 /// A packet of 16 bytes with two records, and the front of a second.
 const CUT: &str = "c11ffcc1 80000000 70000000 01020000 c11ffcc1";
+
+const FILES: Inputs = &[("a", CUT), ("a", CUT), ("a", CUT)];
+
+/// Two readers that do not fail.
+pub const ALL: &[usize] = &[usize::MAX, usize::MAX];
 
 /// A reader that gives at most 7 bytes by one read, and fails once it has given `room` of them.
 #[derive(Drop)]
@@ -47,41 +55,53 @@ static ROWS: &[(&[usize], Option<usize>)] = &[
     (&[], None),
 ];
 
-/// A reader of the bytes in hexadecimal that fails once it gave so many, under a name.
-pub fn named_input(
+#[test]
+fn answers_the_first_reader_that_fails(rt: HostRuntime) -> Result<(), Fail> {
+    for (rooms, place) in ROWS {
+        let want = place.map(|place| TraceFault::Reader(place, ReadStop::ReaderFault));
+        let found = traced(rt.alloc(), SMALL, FILES, rooms)?.err();
+        same(&rt, found, want, *rooms);
+    }
+    Ok(())
+}
+
+/// The trace of a configuration whose stream files are given by readers, each of which fails once it gave so many bytes.
+pub fn traced(
     alloc: Global,
-    name: &str,
-    digits: &str,
-    room: usize,
-) -> Result<(String, Failing), Fail> {
+    text: &str,
+    files: Inputs,
+    rooms: &[usize],
+) -> Result<Result<ReadTrace, TraceFault>, Fail> {
+    let metadata = metadata_of(alloc, text)?;
+    let streams = readers(alloc, files, rooms)?;
+    Ok(read_trace_from(alloc, metadata.as_bytes(), streams))
+}
+
+/// The metadata of a configuration's text.
+pub fn metadata_of(alloc: Global, text: &str) -> Result<String, Fail> {
+    let text = changed(alloc, text, &[])?;
+    let config = configured(alloc, text.as_str(), None)?;
+    granted(write_metadata(alloc, &config))
+}
+
+/// As many readers as there are numbers, each of which fails once it gave so many bytes of its file.
+pub fn readers(
+    alloc: Global,
+    files: Inputs,
+    rooms: &[usize],
+) -> Result<Vec<(String, Failing)>, Fail> {
+    let mut streams = Vec::new(alloc);
+    for ((name, digits), room) in files.iter().zip(rooms) {
+        streams.push(reader(alloc, name, digits, *room)?)?;
+    }
+    Ok(streams)
+}
+
+fn reader(alloc: Global, name: &str, digits: &str, room: usize) -> Result<(String, Failing), Fail> {
     let input = Failing {
         bytes: bytes_of(alloc, digits)?,
         given: 0,
         room,
     };
     Ok((String::from_str(alloc, name)?, input))
-}
-
-/// The fault of a trace whose readers give so many bytes of `CUT` before they fail; None where it is read.
-fn fault_of(alloc: Global, rooms: &[usize]) -> Result<Option<TraceFault>, Fail> {
-    let metadata = metadata_of(alloc, SMALL, &[])?;
-    let streams = inputs(alloc, rooms)?;
-    Ok(read_trace_from(alloc, metadata.as_bytes(), streams).err())
-}
-
-fn inputs(alloc: Global, rooms: &[usize]) -> Result<Vec<(String, Failing)>, Fail> {
-    let mut streams = Vec::new(alloc);
-    for room in rooms {
-        streams.push(named_input(alloc, "a", CUT, *room)?)?;
-    }
-    Ok(streams)
-}
-
-#[test]
-fn answers_the_first_reader_that_fails(rt: HostRuntime) -> Result<(), Fail> {
-    for (rooms, place) in ROWS {
-        let want = place.map(|place| TraceFault::Reader(place, ReadStop::ReaderFault));
-        same(&rt, fault_of(rt.alloc(), rooms)?, want, *rooms);
-    }
-    Ok(())
 }

@@ -1,16 +1,22 @@
 //! Where a record stands in the order of a whole trace.
 
 use crate::tests::expected::same;
-use crate::tests::printed_traces::trace_of;
+use crate::tests::failing_readers::{ALL, Inputs, traced};
 use std::test::Fail;
 use trace_stack::position;
 use worked_fixtures::CLOCKED;
 
 /// Two streams of `CLOCKED`: one with event records at 10 and 11 that ends at 12, and one with an event record at 10 that ends at 11.
-const FILES: &str = r#"
-t0: c1fc1fc1 0200 0188 000000000000000a 000000000000000c 00 00 00 000000000000000a fffe 01 000000000000000b 6f6b00 000000000000000000000000000000
-t1: c1fc1fc1 0200 0128 000000000000000a 000000000000000b 00 00 00 000000000000000a 0003 000000000000000000000000000000000000000000000000000000
-"#;
+const FILES: Inputs = &[
+    (
+        "t0",
+        "c1fc1fc1 0200 0188 000000000000000a 000000000000000c 00 00 00 000000000000000a fffe 01 000000000000000b 6f6b00 000000000000000000000000000000",
+    ),
+    (
+        "t1",
+        "c1fc1fc1 0200 0128 000000000000000a 000000000000000b 00 00 00 000000000000000a 0003 000000000000000000000000000000000000000000000000000000",
+    ),
+];
 
 /// What the row shows, a stream and a reading, and the index of its record in the order.
 static ROWS: &[(&str, usize, u64, Option<usize>)] = &[
@@ -34,7 +40,7 @@ static ROWS: &[(&str, usize, u64, Option<usize>)] = &[
 
 #[test]
 fn finds_the_record_of_a_reading(rt: HostRuntime) -> Result<(), Fail> {
-    let trace = trace_of(rt.alloc(), CLOCKED, &[], FILES)?;
+    let trace = traced(rt.alloc(), CLOCKED, FILES, ALL)??;
     for (shows, stream, value, want) in ROWS {
         same(&rt, position(&trace, *stream, *value), *want, *shows);
     }

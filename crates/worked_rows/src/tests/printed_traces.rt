@@ -1,200 +1,125 @@
-//! Traces that were read, printed.
+//! Traces that are printed, whole and while they are read: a writer or a reader that fails on the way leaves a front of the text.
+
+ghost use Rattle.ctf_types.specs.Allowed.{IsMetadata};
 
 use crate::tests::expected::same;
-use ctf_types::Config;
+use crate::tests::failing_readers::{ALL, Inputs, metadata_of, readers, traced};
+use ctf_types::Metadata;
 use std::alloc::Global;
 use std::process::Abort;
 use std::test::Fail;
 use trace_platform::StoppingWriter;
-use trace_stack::{ReadTrace, read_trace};
-use trace_text::{PrintFault, print_trace};
-use tsdl_writer::write_metadata;
-use worked_fixtures::{CLOCKED, Changes, SMALL, bytes_of, changed, configured};
+use trace_stack::ReadTrace;
+use trace_text::{PrintFault, print_trace, print_trace_from};
+use tsdl_reader::read_metadata;
+use worked_fixtures::CLOCKED;
 
-/// `SMALL` or `CLOCKED` with changes, the stream files of a trace, a line each with a file's name and its bytes in hexadecimal, and the printed text.
-pub type Row = (&'static str, Changes, &'static str, &'static str);
-
-pub static TRACES: &[Row] = &[
+/// Two files of two packets each, whose records are told in turns.
+const IN_TURNS: Inputs = &[
     (
-        CLOCKED,
-        &[],
-        "t0: c1fc1fc1 0200 0188 000000000000000a 000000000000000c 00 00 00 000000000000000a fffe 01 000000000000000b 6f6b00 000000000000000000000000000000",
-        r#"
-clk:10 t0 a fields{n=-2}
-clk:11 t0 b fields{s="ok"}
-stream t0: packets 1, records 2, discarded 0, gaps 0, end Whole
-"#,
+        "t1",
+        "c1fc1fc1 0200 0188 000000000000000a 000000000000000c 00 00 00 000000000000000a fffe 01 000000000000000b 6f6b00 000000000000000000000000000000 c1fc1fc1 0200 0188 000000000000000d 0000000000000010 02 01 00 000000000000000e fffe 01 000000000000000f 6f6b00 000000000000000000000000000000",
     ),
     (
-        SMALL,
-        &[],
-        "a: c11ffcc1 80000000 70000000 01020000 c11ffcc1",
-        r#"
-- a e fields{v=1}
-- a e fields{v=2}
-stream a: packets 1, records 2, discarded -, gaps -, end Torn(16)
-"#,
-    ),
-    (
-        CLOCKED,
-        &[],
-        "t0: c1fc1fc1 0200 0188 000000000000000a 000000000000000c 00 00 02 000000000000000a fffe 01 000000000000000b 6f6b00 000000000000000000000000000000",
-        "stream t0: packets 0, records 0, discarded -, gaps -, end P4(0)",
-    ),
-    (
-        SMALL,
-        &[],
-        r#"
-b: c11ffcc1 68000000 68000000 03
-a: c11ffcc1 68000000 68000000 04
-empty: 
-"#,
-        r#"
-- a e fields{v=4}
-- b e fields{v=3}
-stream a: packets 1, records 1, discarded -, gaps -, end Whole
-stream b: packets 1, records 1, discarded -, gaps -, end Whole
-stream empty: packets 0, records 0, discarded -, gaps -, end Whole
-"#,
-    ),
-    (
-        SMALL,
-        &[(
-            "PAYLOAD",
-            r#"[{"b":{"field-type":{"class":"uint","size":8,"preferred-display-base":"bin"}}},{"o":{"field-type":{"class":"uint","size":8,"preferred-display-base":"oct"}}},{"d":{"field-type":{"class":"uint","size":8}}},{"h":{"field-type":{"class":"uint","size":8,"preferred-display-base":"hex"}}},{"s":{"field-type":{"class":"sint","size":8,"preferred-display-base":"hex"}}}]"#,
-        )],
-        "a: c11ffcc1 88000000 88000000 05 08 0a ff fe",
-        r#"
-- a e fields{b=0b101, o=0o10, d=10, h=0xff, s=-2}
-stream a: packets 1, records 1, discarded -, gaps -, end Whole
-"#,
-    ),
-    (
-        SMALL,
-        &[(
-            "PAYLOAD",
-            r#"[{"x":{"field-type":{"class":"uenum","size":8,"mappings":{"OFF":[0],"ON":[[1,3],9],"A\nB":[[2,4]]}}}}]"#,
-        )],
-        "a: c11ffcc1 80000000 80000000 01 02 09 05",
-        r#"
-- a e fields{x=1(ON)}
-- a e fields{x=2(A\nB)}
-- a e fields{x=9(ON)}
-- a e fields{x=5}
-stream a: packets 1, records 4, discarded -, gaps -, end Whole
-"#,
-    ),
-    (
-        SMALL,
-        &[(
-            "PAYLOAD",
-            r#"[{"l":{"field-type":{"class":"dynamic-array","element-field-type":{"class":"uint","size":8}}}},{"m":{"field-type":{"class":"static-array","length":2,"element-field-type":{"class":"static-array","length":1,"element-field-type":{"class":"uint","size":8,"preferred-display-base":"hex"}}}}}]"#,
-        )],
-        "a: c11ffcc1 d0000000 d0000000 02000000 01 02 0a 0b 00000000 0c 0d",
-        r#"
-- a e fields{__l_len=2, l=[1, 2], m=[[0xa], [0xb]]}
-- a e fields{__l_len=0, l=[], m=[[0xc], [0xd]]}
-stream a: packets 1, records 2, discarded -, gaps -, end Whole
-"#,
-    ),
-    (
-        SMALL,
-        &[("PAYLOAD", r#"[{"s":{"field-type":{"class":"str"}}}]"#)],
-        "a: c11ffcc1 b0000000 b0000000 61 22 ff 00 5c 0a 09 7f 1f 00",
-        r#"
-- a e fields{s="a\"\xff"}
-- a e fields{s="\\\n\t\x7f\x1f"}
-stream a: packets 1, records 2, discarded -, gaps -, end Whole
-"#,
+        "t0",
+        "c1fc1fc1 0200 0188 000000000000000a 000000000000000c 00 00 00 000000000000000a fffe 01 000000000000000c 6f6b00 000000000000000000000000000000 c1fc1fc1 0200 0188 000000000000000d 0000000000000010 03 03 00 000000000000000d fffe 01 000000000000000e 6f6b00 000000000000000000000000000000",
     ),
 ];
 
-#[test]
-fn prints_what_was_read(rt: HostRuntime) -> Result<(), Fail> {
-    for (text, changes, files, want) in TRACES {
-        let printed = printed_whole(rt.alloc(), text, changes, files)?;
-        same(&rt, printed.as_str().trim(), want.trim(), *files);
-    }
-    Ok(())
-}
+/// What is printed of them: 336 bytes, of which the lines end at 25, 50, 77, 104, 129, 156, 181, 208, 272 and 336.
+const PRINTED: &str = r#"clk:10 t0 a fields{n=-2}
+clk:10 t1 a fields{n=-2}
+clk:11 t1 b fields{s="ok"}
+clk:12 t0 b fields{s="ok"}
+clk:13 t0 a fields{n=-2}
+clk:14 t0 b fields{s="ok"}
+clk:14 t1 a fields{n=-2}
+clk:15 t1 b fields{s="ok"}
+stream t0: packets 2, records 4, discarded 3, gaps 1, end Whole
+stream t1: packets 2, records 4, discarded 2, gaps 0, end Whole
+"#;
 
-/// What is printed of a trace that is read of these files.
-pub fn printed_whole(
-    alloc: Global,
-    text: &str,
-    changes: Changes,
-    files: &str,
-) -> Result<String, Fail> {
-    let trace = trace_of(alloc, text, changes, files)?;
-    printed(alloc, &trace)
-}
-
-/// What is printed of a trace.
-fn printed(alloc: Global, trace: &ReadTrace) -> Result<String, Fail> {
-    let mut writer = StoppingWriter::new(alloc, usize::MAX, 7);
-    print_trace(alloc, trace, &mut writer)?;
-    Ok(String::from_utf8(writer.bytes)?)
-}
+/// The room of a writer, and the answer where the whole trace is printed into it.
+static WRITERS: &[(usize, Option<PrintFault>)] = &[
+    (0, Some(PrintFault::Writer)),
+    (1, Some(PrintFault::Writer)),
+    (24, Some(PrintFault::Writer)),
+    (25, Some(PrintFault::Writer)),
+    (335, Some(PrintFault::Writer)),
+    (336, None),
+];
 
 #[test]
 fn a_writer_that_stops_has_a_front_of_the_text(rt: HostRuntime) -> Result<(), Fail> {
-    let (text, changes, files, want) = TRACES[1];
-    let trace = trace_of(rt.alloc(), text, changes, files)?;
-    for room in [0, 1, 17, 18, 101] {
-        has_a_front(&rt, rt.alloc(), &trace, want.trim_start(), room);
+    let trace = traced(rt.alloc(), CLOCKED, IN_TURNS, ALL)??;
+    for (room, fault) in WRITERS {
+        has_a_front(&rt, rt.alloc(), &trace, *room, *fault);
     }
     Ok(())
 }
 
-/// A writer with so much room has a front of the text of the trace.
-fn has_a_front(rt: &impl Abort, alloc: Global, trace: &ReadTrace, want: &str, room: usize) {
+/// A writer with so much room has as much of the text.
+fn has_a_front(
+    rt: &impl Abort,
+    alloc: Global,
+    trace: &ReadTrace,
+    room: usize,
+    fault: Option<PrintFault>,
+) {
     let mut writer = StoppingWriter::new(alloc, room, 16);
     let answer = print_trace(alloc, trace, &mut writer).err();
-    let want = (Some(PrintFault::Writer), want.as_bytes().get(..room));
+    let want = (fault, PRINTED.as_bytes().get(..room));
     same(rt, (answer, Some(writer.bytes.as_slice())), want, room);
 }
 
-pub fn trace_of(
-    alloc: Global,
-    text: &str,
-    changes: Changes,
-    files: &str,
-) -> Result<ReadTrace, Fail> {
-    let metadata = metadata_of(alloc, text, changes)?;
-    trace_by(alloc, metadata.as_str(), files)
-}
+/// How many bytes each reader gives before it fails, the room of the writer, how many bytes of the text are printed, and the answer.
+static READERS: &[(&[usize], usize, usize, &str)] = &[
+    (
+        ALL,
+        usize::MAX,
+        336,
+        r#"Ok([PrintedFile { name: Text { text: "t1" }, packets: 2, end: Whole }, PrintedFile { name: Text { text: "t0" }, packets: 2, end: Whole }])"#,
+    ),
+    (&[0, 200], usize::MAX, 0, "Err(Reader(0, ReaderFault))"),
+    (&[64, 200], usize::MAX, 77, "Err(Reader(0, ReaderFault))"),
+    (&[200, 100], usize::MAX, 104, "Err(Reader(1, ReaderFault))"),
+    (&[200, 64], usize::MAX, 104, "Err(Reader(1, ReaderFault))"),
+    (ALL, 0, 0, "Err(Writer)"),
+    (ALL, 1, 1, "Err(Writer)"),
+    (ALL, 24, 24, "Err(Writer)"),
+    (ALL, 25, 25, "Err(Writer)"),
+    (ALL, 300, 300, "Err(Writer)"),
+];
 
-fn trace_by(alloc: Global, metadata: &str, files: &str) -> Result<ReadTrace, Fail> {
-    let streams = files_of(alloc, files)?;
-    Ok(read_trace(alloc, metadata.as_bytes(), &streams)?)
-}
-
-/// The metadata of a configuration's text with changes.
-pub fn metadata_of(alloc: Global, text: &str, changes: Changes) -> Result<String, Fail> {
-    let text = changed(alloc, text, changes)?;
-    written_of(alloc, text.as_str())
-}
-
-fn written_of(alloc: Global, text: &str) -> Result<String, Fail> {
-    let config = configured(alloc, text, None)?;
-    text_of(alloc, &config)
-}
-
-fn text_of(alloc: Global, config: &Config) -> Result<String, Fail> {
-    Ok(write_metadata(alloc, config)?)
-}
-
-/// The stream files of a trace, a line each.
-fn files_of(alloc: Global, files: &str) -> Result<Vec<(String, Vec<u8>)>, Fail> {
-    let mut streams = Vec::new(alloc);
-    for line in files.trim_start().lines() {
-        streams.push(file_of(alloc, line)?)?;
+#[test]
+fn a_reader_that_fails_leaves_a_front(rt: HostRuntime) -> Result<(), Fail> {
+    for (rooms, room, bytes, want) in READERS {
+        let (text, answer) = printed(rt.alloc(), rooms, *room)?;
+        let found = (Some(text.as_slice()), answer.as_str());
+        let front = PRINTED.as_bytes().get(..*bytes);
+        same(&rt, found, (front, *want), (*rooms, *room));
     }
-    Ok(streams)
+    Ok(())
 }
 
-fn file_of(alloc: Global, line: &str) -> Result<(String, Vec<u8>), Fail> {
-    let (name, digits) = line.split_once(": ").ok_or("a line without a file")?;
-    let name = String::from_str(alloc, name)?;
-    Ok((name, bytes_of(alloc, digits)?))
+/// What is printed of the files while they are read, and the answer in words.
+fn printed(alloc: Global, rooms: &[usize], room: usize) -> Result<(Vec<u8>, String), Fail> {
+    let text = metadata_of(alloc, CLOCKED)?;
+    let metadata = read_metadata(alloc, text.as_bytes())?;
+    printed_by(alloc, &metadata, rooms, room)
+}
+
+fn printed_by(
+    alloc: Global,
+    metadata: &Metadata,
+    rooms: &[usize],
+    room: usize,
+) -> Result<(Vec<u8>, String), Fail>
+    requires { IsMetadata metadata.now }
+{
+    let streams = readers(alloc, IN_TURNS, rooms)?;
+    let mut writer = StoppingWriter::new(alloc, room, 7);
+    let answer = print_trace_from(alloc, metadata, streams, &mut writer);
+    let said = format!(in alloc; "{answer:?}")?;
+    Ok((writer.bytes, said))
 }
