@@ -71,25 +71,19 @@ fn readers<'f>(alloc: Global, files: &'f [File]) -> Result<Vec<(String, &'f [u8]
     Ok(streams)
 }
 
-/// All of the trace is printed.
+/// All of the trace is printed. A refused call printed a front of it.
 fn prints(rt: &impl Abort, alloc: Global, trace: &ReadTrace) -> Result<(), Fail> {
-    let text = printed(rt, alloc, trace)?;
-    same(rt, text.as_slice(), PRINTED.as_bytes(), "the printed text");
-    Ok(())
-}
-
-/// What is printed. The refused call printed a front of it.
-fn printed(rt: &impl Abort, alloc: Global, trace: &ReadTrace) -> Result<Vec<u8>, Fail> {
     let mut text = granted(Vec::with_capacity(alloc, PRINTED.len()))?;
     match print_trace(alloc, trace, &mut text) {
-        Ok(()) => Ok(text),
-        Err(PrintFault::Writer) => Err("a list that takes no more".into()),
+        Ok(()) => {}
+        Err(PrintFault::Writer) => return Err("a list that takes no more".into()),
         Err(PrintFault::OutOfMemory) => {
             let front = PRINTED.as_bytes().get(..text.len());
             same(rt, Some(text.as_slice()), front, "a front of the text");
             text.clear();
             at_last(print_trace(alloc, trace, &mut text))?;
-            Ok(text)
         }
     }
+    same(rt, text.as_slice(), PRINTED.as_bytes(), "the printed text");
+    Ok(())
 }
