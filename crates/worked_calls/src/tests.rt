@@ -10,8 +10,6 @@ mod merging;
 mod platform;
 mod requests;
 mod sink_faults;
-mod stream_faults;
-mod streams;
 mod telling;
 mod traced;
 mod types;

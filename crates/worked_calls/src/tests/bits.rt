@@ -1,58 +1,12 @@
-//! Worked rows, and each function beside the definitions written out.
+//! Each function beside the definitions written out.
 
-ghost use Rattle.std.specs.Prelude.{◌≡◌, ◌^◌, ◌<◌, ◌≤◌, length, IsTrue};
+ghost use Rattle.std.specs.Prelude.{◌^◌, ◌<◌, ◌≤◌};
 
 use crate::tests::expected::same;
 use bit_codec::{get_bits, put_bits, put_bytes, zero_bits};
 use ctf_types::ByteOrder;
 use std::fmt::Debug;
 use std::process::Abort;
-
-/// Numbers, each with its size in bits before it, and the bytes in which they lie one after the other in each order.
-type Row = (&'static [(u8, u64)], &'static [u8], &'static [u8]);
-
-static PACKED: &[Row] = &[
-    (&[(3, 5), (5, 17)], &[0x8d], &[0xb1]),
-    (&[(4, 5), (12, 0xabc)], &[0xc5, 0xab], &[0x5a, 0xbc]),
-    // -3 in 5 bits, and -2^63 in 64
-    (&[(5, 29)], &[0x1d], &[0xe8]),
-    (
-        &[(64, 1 << 63)],
-        &[0, 0, 0, 0, 0, 0, 0, 0x80],
-        &[0x80, 0, 0, 0, 0, 0, 0, 0],
-    ),
-];
-
-#[test]
-fn packs_numbers_in_both_orders(rt: HostRuntime) {
-    for (numbers, little, big) in PACKED {
-        packs_in_order(&rt, numbers, ByteOrder::Little, little);
-        packs_in_order(&rt, numbers, ByteOrder::Big, big);
-    }
-}
-
-fn packs_in_order(rt: &impl Abort, numbers: &[(u8, u64)], order: ByteOrder, want: &[u8]) {
-    let mut bytes = [0; 8];
-    let mut at = 0;
-    for (n, value) in numbers {
-        let read = put_and_read(&mut bytes, at, *n, order, *value);
-        same_at(rt, read, Some(*value), at, *n, order);
-        at = at.saturating_add(u64::from(*n));
-    }
-    same_at(rt, bytes.get(..want.len()), Some(want), 0, 64, order);
-}
-
-/// What is read where a number of so many bits was put, where it fits.
-fn put_and_read(bytes: &mut [u8], at: u64, n: u8, order: ByteOrder, value: u64) -> Option<u64>
-    requires { length bytes.old ≡ 8 }
-    ensures { length bytes.new ≡ 8 }
-{
-    if at >= 64 || n == 0 || n > 64 || at + u64::from(n) > 64 || !is_in_range(value, n) {
-        return None;
-    }
-    put_bits(bytes, at, n, order, value);
-    Some(get_bits(bytes, at, n, order))
-}
 
 /// Both are equal; else the test fails at this number of bits and this place.
 fn same_at<T: PartialEq + Debug + Drop>(
@@ -66,38 +20,14 @@ fn same_at<T: PartialEq + Debug + Drop>(
     assert_eq!(rt; found, want, "{n} bits at {at}, {order:?}");
 }
 
-fn is_in_range(value: u64, n: u8) -> bool
-    requires some { 0 < n }
-    requires at_most_64 { n ≤ 64 }
-    ensures { IsTrue result → value < 2 ^ n }
-{
-    value >> (n - 1) < 2
-}
-
-/// Ones, with a span of 22 bits cleared.
-fn cleared(order: ByteOrder) -> [u8; 4] {
-    let mut bytes = [0xff; 4];
-    zero_bits(&mut bytes, 5, 22, order);
-    bytes
-}
-
 #[test]
-fn clears_a_span_in_both_orders(rt: HostRuntime) {
-    let little = cleared(ByteOrder::Little);
-    same_at(
-        &rt,
-        little,
-        [0x1f, 0x00, 0xc0, 0xff],
-        5,
-        22,
-        ByteOrder::Little,
-    );
-    let big = cleared(ByteOrder::Big);
-    same_at(&rt, big, [0xf8, 0x00, 0x03, 0xff], 5, 22, ByteOrder::Big);
-}
-
-#[test]
-fn copies_bytes_to_a_whole_byte(rt: HostRuntime) {
+fn clears_a_span_in_both_orders_and_copies_bytes(rt: HostRuntime) {
+    let mut little = [0xff; 4];
+    zero_bits(&mut little, 5, 22, ByteOrder::Little);
+    let mut big = [0xff; 4];
+    zero_bits(&mut big, 5, 22, ByteOrder::Big);
+    let cleared = [[0x1f, 0x00, 0xc0, 0xff], [0xf8, 0x00, 0x03, 0xff]];
+    same(&rt, [little, big], cleared, "22 bits from bit 5 on");
     let mut bytes = [0xa5; 5];
     put_bytes(&mut bytes, 8, b"abc");
     let copied = bytes;

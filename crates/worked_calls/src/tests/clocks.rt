@@ -3,20 +3,12 @@
 ghost use Rattle.std.specs.Prelude.{◌≡◌, ◌+◌, ◌<◌, ◌^◌, IfOk};
 ghost use Rattle.trace_clock.specs.Seats.{SameClock, clock_of, told_clock};
 
-use crate::tests::expected::{holds, same};
+use crate::tests::expected::same;
 use std::alloc::{AllocError, Global};
-use std::process::Abort;
 use std::test::Fail;
-use std::thread::{self, Threads};
+use std::thread;
 use trace_clock::{ClockFault, FloorClock, TickClock, TickSeat, Told, join_all};
 use trace_platform::{Clock, ClockSpent, ListClock};
-
-/// A reading, or that there is none.
-type Reading = Result<u64, ClockSpent>;
-
-fn are_read(rt: &impl Abort, found: &[Reading], expected: &[Reading]) {
-    assert_eq!(rt; found, expected);
-}
 
 /// Two seats of one clock of so many readings from here on, with these quotas.
 pub fn two_seats(
@@ -35,20 +27,15 @@ pub fn two_seats(
     Ok((first, second))
 }
 
-/// A seat of two readings, and whether its clock of three then refuses another such.
-fn seat_and_refusal(alloc: Global) -> Result<(TickSeat, bool), Fail> {
-    let mut clock = TickClock::new(alloc, 0, 3)?;
-    let seat = clock.seat(alloc, 2)?;
-    let refused = matches!(clock.seat(alloc, 2), Err(ClockFault::QuotaSpent));
-    Ok((seat, refused))
-}
-
 #[test]
 fn gives_no_more_readings_than_its_total(rt: HostRuntime) -> Result<(), Fail> {
-    let (mut seat, refused) = seat_and_refusal(rt.alloc())?;
-    holds(&rt, refused, "a quota that the clock has not");
+    let mut clock = TickClock::new(rt.alloc(), 0, 3)?;
+    let mut seat = clock.seat(rt.alloc(), 2)?;
+    let refused = matches!(clock.seat(rt.alloc(), 2), Err(ClockFault::QuotaSpent));
+    same(&rt, refused, true, "a quota that the clock has not");
     let readings = [seat.read(), seat.read(), seat.read()];
-    are_read(&rt, &readings, &[Ok(0), Ok(1), Err(ClockSpent)]);
+    let want = [Ok(0), Ok(1), Err(ClockSpent)];
+    same(&rt, readings, want, "three readings");
     same(&rt, seat.spent_count(), 1, "readings that were refused");
     Ok(())
 }
@@ -57,9 +44,10 @@ fn gives_no_more_readings_than_its_total(rt: HostRuntime) -> Result<(), Fail> {
 fn gives_each_reading_to_one_seat(rt: HostRuntime) -> Result<(), Fail> {
     let (mut first, mut second) = two_seats(rt.alloc(), 10, 4, 2, 2)?;
     let readings = [first.read(), second.read(), second.read(), first.read()];
-    are_read(&rt, &readings, &[Ok(10), Ok(11), Ok(12), Ok(13)]);
+    let want = [Ok(10), Ok(11), Ok(12), Ok(13)];
+    same(&rt, readings, want, "all readings");
     let spent = [first.read(), second.read()];
-    are_read(&rt, &spent, &[Err(ClockSpent), Err(ClockSpent)]);
+    same(&rt, spent, [Err(ClockSpent); 2], "one more each");
     Ok(())
 }
 
@@ -73,31 +61,21 @@ fn read_all(alloc: Global, mut seat: TickSeat) -> Result<Vec<u64>, AllocError> {
     Ok(readings)
 }
 
-/// All readings of two seats, each read in a thread of its own, in rising order.
-fn read_in_threads(
-    rt: &impl Threads,
-    alloc: Global,
-    here: TickSeat,
-    there: TickSeat,
-) -> Result<Vec<u64>, Fail> {
+#[test]
+fn gives_each_reading_to_one_thread(rt: HostRuntime) -> Result<(), Fail> {
+    let alloc = rt.alloc();
+    let (here, there) = two_seats(alloc, 5, 2000, 1000, 1000)?;
     let (all, other) = thread::join(
-        rt,
+        &rt,
         move || read_all(alloc, here),
         move || read_all(alloc, there),
     );
     let mut all = all?;
     all.extend_from_slice(&other?)?;
     all.sort()?;
-    Ok(all)
-}
-
-#[test]
-fn gives_each_reading_to_one_thread(rt: HostRuntime) -> Result<(), Fail> {
-    let (here, there) = two_seats(rt.alloc(), 5, 2000, 1000, 1000)?;
-    let all = read_in_threads(&rt, rt.alloc(), here, there)?;
-    holds(&rt, all.len() == 2000, "all readings");
+    same(&rt, all.len(), 2000, "all readings");
     for (i, reading) in all.iter().enumerate() {
-        holds(&rt, *reading == i as u64 + 5, "each reading once");
+        same(&rt, *reading, i as u64 + 5, "each reading once");
     }
     Ok(())
 }
@@ -117,13 +95,19 @@ fn reading_after(seat: &mut TickSeat, told: Told) -> Result<u64, ClockSpent>
     seat.read_after(told)
 }
 
+/// The seat that joins had two readings left.
 #[test]
-fn reads_after_what_was_told(rt: HostRuntime) -> Result<(), Fail> {
-    let (mut first, mut second) = two_seats(rt.alloc(), 0, 6, 3, 3)?;
+fn reads_after_what_was_told_and_joins(rt: HostRuntime) -> Result<(), Fail> {
+    let (mut first, mut second) = two_seats(rt.alloc(), 0, 5, 4, 1)?;
     let before = reading(&mut first);
     let told = first.tell(rt.alloc())?;
-    let readings = [before, second.read_after(told), first.read()];
-    are_read(&rt, &readings, &[Ok(0), Ok(1), Ok(2)]);
+    let after = reading_after(&mut second, told);
+    let readings = [before, after, reading(&mut first)];
+    same(&rt, readings, [Ok(0), Ok(1), Ok(2)], "one after the other");
+    second.join(first);
+    let joined = [second.read(), second.read(), second.read()];
+    let want = [Ok(3), Ok(4), Err(ClockSpent)];
+    same(&rt, joined, want, "the quota of the seat that joined");
     Ok(())
 }
 
@@ -133,52 +117,36 @@ fn refuses_after_being_told_where_the_quota_is_spent(rt: HostRuntime) -> Result<
     let told = first.tell(rt.alloc())?;
     let spent = second.read_after(told);
     same(&rt, second.spent_count(), 1, "readings that were refused");
-    are_read(&rt, &[spent, first.read()], &[Err(ClockSpent), Ok(0)]);
-    Ok(())
-}
-
-#[test]
-fn a_seat_that_joins_brings_its_quota(rt: HostRuntime) -> Result<(), Fail> {
-    let (mut first, mut second) = two_seats(rt.alloc(), 0, 3, 2, 1)?;
-    let before = reading(&mut first);
-    let told = first.tell(rt.alloc())?;
-    let after = reading_after(&mut second, told);
-    second.join(first);
-    let readings = [before, after, second.read(), second.read()];
-    are_read(&rt, &readings, &[Ok(0), Ok(1), Ok(2), Err(ClockSpent)]);
+    let readings = [spent, first.read()];
+    same(&rt, readings, [Err(ClockSpent), Ok(0)], "two readings");
     Ok(())
 }
 
 /// A seat that two more joined, of a clock of three readings.
-fn joined(alloc: Global) -> Result<TickSeat, Fail> {
+#[test]
+fn all_seats_join_the_first(rt: HostRuntime) -> Result<(), Fail> {
+    let alloc = rt.alloc();
     let mut clock = TickClock::new(alloc, 0, 3)?;
     let first = clock.seat(alloc, 1)?;
     let second = clock.seat(alloc, 1)?;
     let third = clock.seat(alloc, 1)?;
     let others = vec![in alloc; second, third]?;
-    Ok(join_all(first, others))
-}
-
-#[test]
-fn all_seats_join_the_first(rt: HostRuntime) -> Result<(), Fail> {
-    let mut all = joined(rt.alloc())?;
+    let mut all = join_all(first, others);
     let readings = [all.read(), all.read(), all.read(), all.read()];
-    are_read(&rt, &readings, &[Ok(0), Ok(1), Ok(2), Err(ClockSpent)]);
+    let want = [Ok(0), Ok(1), Ok(2), Err(ClockSpent)];
+    same(&rt, readings, want, "all readings");
     Ok(())
 }
 
 /// A clock of the readings 3 and 9 with the floor 5.
-fn floor_clock(alloc: Global) -> Result<FloorClock<ListClock>, Fail> {
-    let readings = vec![in alloc; 3, 9]?;
-    let clock = ListClock::new(readings).ok_or("these never fall")?;
-    Ok(FloorClock::new(clock, 5))
-}
-
 #[test]
 fn a_floor_clock_begins_at_its_floor(rt: HostRuntime) -> Result<(), Fail> {
-    let mut clock = floor_clock(rt.alloc())?;
+    let readings = vec![in rt.alloc(); 3, 9]?;
+    let clock = ListClock::new(readings).ok_or("these never fall")?;
+    let mut clock = FloorClock::new(clock, 5);
     let readings = [clock.read(), clock.read(), clock.read()];
-    are_read(&rt, &readings, &[Ok(5), Ok(9), Err(ClockSpent)]);
+    let want = [Ok(5), Ok(9), Err(ClockSpent)];
+    same(&rt, readings, want, "three readings");
     same(&rt, clock.spent_count(), 1, "readings that were refused");
     Ok(())
 }

@@ -6,8 +6,8 @@ ghost use Rattle.ctf_types.specs.Laws.{IsAutomatic, AreAutomatic};
 
 use conf_check::configure;
 use ctf_types::{
-    Base, Bytes, Config, Element, FieldType, IntType, Length, MemberType, Members, StructType,
-    Text, Value, Values,
+    Args, Base, Bytes, Config, Element, FieldType, IntType, Length, MemberType, Members,
+    StructType, Text, Value, Values,
 };
 use std::alloc::{AllocError, Global};
 use std::test::Fail;
@@ -44,56 +44,30 @@ fn member(alloc: Global, kind: Kind) -> Result<MemberType, Fail>
     }
 }
 
-/// One more member, whose name is not taken yet.
-fn add(alloc: Global, members: &mut Members, name: &str, member: MemberType) -> Result<(), Fail>
-    requires automatic { AreAutomatic members.old }
-    requires member { IsAutomatic member }
+/// One more member where there is a kind. Its name is not taken yet.
+fn add(alloc: Global, members: &mut Members, name: &str, kind: Option<&Kind>) -> Result<(), Fail>
+    requires { AreAutomatic members.old }
     ensures { AreAutomatic members.new }
 {
+    let Some(kind) = kind else {
+        return Ok(());
+    };
     if members.contains(name) {
         return Err("a name twice".into());
     }
+    let member = member(alloc, *kind)?;
     let name = Text::from_str(alloc, name)?;
     Ok(members.push(name, member)?)
-}
-
-fn with(
-    alloc: Global,
-    mut members: Members,
-    name: &str,
-    member: MemberType,
-) -> Result<Members, Fail>
-    requires automatic { AreAutomatic members }
-    requires member { IsAutomatic member }
-    ensures { IfOk result (λ m. AreAutomatic m) }
-{
-    add(alloc, &mut members, name, member)?;
-    Ok(members)
-}
-
-/// One more member where there is a kind.
-fn with_kind(
-    alloc: Global,
-    members: Members,
-    name: &str,
-    kind: Option<&Kind>,
-) -> Result<Members, Fail>
-    requires automatic { AreAutomatic members }
-    ensures { IfOk result (λ m. AreAutomatic m) }
-{
-    match kind {
-        None => Ok(members),
-        Some(kind) => with(alloc, members, name, member(alloc, *kind)?),
-    }
 }
 
 /// A structure of up to three members, named `a`, `b` and `c`.
 pub fn structure(alloc: Global, kinds: &[Kind]) -> Result<StructType, Fail>
     ensures { IfOk result (λ s. AreAutomatic s.members) }
 {
-    let members = with_kind(alloc, Members::new(alloc), "a", kinds.get(0))?;
-    let members = with_kind(alloc, members, "b", kinds.get(1))?;
-    let members = with_kind(alloc, members, "c", kinds.get(2))?;
+    let mut members = Members::new(alloc);
+    add(alloc, &mut members, "a", kinds.get(0))?;
+    add(alloc, &mut members, "b", kinds.get(1))?;
+    add(alloc, &mut members, "c", kinds.get(2))?;
     Ok(StructType::new(members, 1).ok_or("no such alignment")?)
 }
 
@@ -105,8 +79,6 @@ pub enum Datum {
     Text(&'static [u8]),
     /// A list of unsigned numbers.
     List(&'static [u64]),
-    /// A list of so many zeros.
-    Zeros(usize),
 }
 
 pub fn values(alloc: Global, data: &[Datum]) -> Result<Values, AllocError> {
@@ -123,7 +95,6 @@ fn value(alloc: Global, datum: Datum) -> Result<Value, AllocError> {
         Datum::Signed(number) => Ok(Value::Signed(number)),
         Datum::Text(bytes) => Ok(Value::Text(Bytes::from_slice(alloc, bytes)?)),
         Datum::List(numbers) => Ok(Value::List(list(alloc, numbers)?)),
-        Datum::Zeros(count) => Ok(Value::List(zeros(alloc, count)?)),
     }
 }
 
@@ -135,12 +106,27 @@ fn list(alloc: Global, numbers: &[u64]) -> Result<Values, AllocError> {
     Ok(values)
 }
 
-fn zeros(alloc: Global, count: usize) -> Result<Values, AllocError> {
-    let mut values = Values::new(alloc);
-    for _ in 0..count {
-        values.push(Value::Unsigned(0))?;
-    }
-    Ok(values)
+/// Arguments whose payload is these values.
+pub fn payload(alloc: Global, data: &[Datum]) -> Result<Args, AllocError> {
+    Ok(Args {
+        common: Values::new(alloc),
+        specific: Values::new(alloc),
+        payload: values(alloc, data)?,
+    })
+}
+
+/// Arguments of a number, a signed number and a text, one in each structure.
+pub fn arguments(
+    alloc: Global,
+    unsigned: u64,
+    signed: i64,
+    text: &'static [u8],
+) -> Result<Args, AllocError> {
+    Ok(Args {
+        common: values(alloc, &[Datum::Unsigned(unsigned)])?,
+        specific: values(alloc, &[Datum::Signed(signed)])?,
+        payload: values(alloc, &[Datum::Text(text)])?,
+    })
 }
 
 /// The configuration that a text is.

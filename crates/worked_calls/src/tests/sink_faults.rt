@@ -1,12 +1,11 @@
 //! What no clause says: a sink faults where its writer fails, takes no byte or stops, or where memory is refused, and there alone.
 
-use crate::tests::expected::{holds, same};
+use crate::tests::expected::same;
 use std::alloc::Global;
-use std::fmt::Debug;
 use std::io::{Error, ErrorKind, Result as IoResult, Write};
 use std::process::Abort;
 use std::test::Fail;
-use trace_platform::{MemorySink, Sink, SinkFault, StoppingWriter, WriterSink};
+use trace_platform::{MemorySink, Script, ScriptedSink, Sink, SinkFault, Turn, WriterSink};
 
 /// How a writer answers one write.
 #[derive(Clone, Copy)]
@@ -23,21 +22,16 @@ struct AnsweringWriter {
     taken: Vec<u8>,
 }
 
-impl AnsweringWriter {
-    fn next_answer(&mut self) -> Answer {
-        match self.answers.split_first() {
+impl Write for AnsweringWriter {
+    fn write(&mut self, bytes: &[u8]) -> IoResult<usize> {
+        let answer = match self.answers.split_first() {
             None => Answer::Takes(usize::MAX),
             Some((answer, answers)) => {
                 self.answers = answers;
                 *answer
             }
-        }
-    }
-}
-
-impl Write for AnsweringWriter {
-    fn write(&mut self, bytes: &[u8]) -> IoResult<usize> {
-        match self.next_answer() {
+        };
+        match answer {
             Answer::Takes(most) => {
                 let count = bytes.len().min(most);
                 self.taken.extend_from_slice(&bytes[..count])?;
@@ -52,46 +46,115 @@ impl Write for AnsweringWriter {
     }
 }
 
-/// What a row shows, the writer's answers, and what an appending of six bytes answers and leaves in the writer.
+/// Bytes that are appended, and what that answers.
+type Appending = (&'static [u8], Result<(), SinkFault>);
+
+/// What a row shows, the writer's answers, what is appended, how often the sink has faulted then, and what its writer took.
 type Row = (
     &'static str,
     &'static [Answer],
-    Result<(), SinkFault>,
+    &'static [Appending],
+    u64,
     &'static [u8],
 );
 
 const INTERRUPTED: Answer = Answer::Fails(ErrorKind::Interrupted);
 
+const APPENDED: &[Appending] = &[(b"abcdef", Ok(()))];
+
+const REFUSED: &[Appending] = &[(b"abcdef", Err(SinkFault))];
+
 static ROWS: &[Row] = &[
-    ("all bytes at once", &[], Ok(()), b"abcdef"),
+    ("all bytes at once", &[], APPENDED, 0, b"abcdef"),
     (
         "all bytes in pieces",
         &[Answer::Takes(1), Answer::Takes(3)],
-        Ok(()),
+        APPENDED,
+        0,
         b"abcdef",
     ),
     (
         "an interrupted write is tried again",
         &[INTERRUPTED, Answer::Takes(2), INTERRUPTED, INTERRUPTED],
-        Ok(()),
+        APPENDED,
+        0,
         b"abcdef",
     ),
     (
-        "a write takes no byte",
+        "the first write takes no byte",
+        &[Answer::Takes(0)],
+        REFUSED,
+        1,
+        b"",
+    ),
+    (
+        "a write takes no byte behind one byte",
+        &[Answer::Takes(1), Answer::Takes(0)],
+        REFUSED,
+        1,
+        b"a",
+    ),
+    (
+        "a write takes no byte behind two",
         &[Answer::Takes(2), Answer::Takes(0)],
-        Err(SinkFault),
+        REFUSED,
+        1,
         b"ab",
+    ),
+    (
+        "a write takes no byte behind three",
+        &[Answer::Takes(3), Answer::Takes(0)],
+        REFUSED,
+        1,
+        b"abc",
+    ),
+    (
+        "a write takes no byte behind four",
+        &[Answer::Takes(4), Answer::Takes(0)],
+        REFUSED,
+        1,
+        b"abcd",
+    ),
+    (
+        "a write takes no byte behind two pieces",
+        &[Answer::Takes(4), Answer::Takes(1), Answer::Takes(0)],
+        REFUSED,
+        1,
+        b"abcde",
+    ),
+    (
+        "the last piece is a short one",
+        &[Answer::Takes(4), Answer::Takes(2), Answer::Takes(0)],
+        APPENDED,
+        0,
+        b"abcdef",
+    ),
+    (
+        "more bytes behind those that were taken in pieces",
+        &[
+            Answer::Takes(5),
+            Answer::Takes(5),
+            Answer::Takes(5),
+            Answer::Takes(5),
+            Answer::Takes(4),
+            Answer::Takes(0),
+        ],
+        &[(b"0123456789abcdef", Ok(())), (b"ghijkl", Err(SinkFault))],
+        1,
+        b"0123456789abcdefghij",
     ),
     (
         "a write fails",
         &[Answer::Takes(4), Answer::Fails(ErrorKind::BrokenPipe)],
-        Err(SinkFault),
+        REFUSED,
+        1,
         b"abcd",
     ),
     (
         "the first write fails",
         &[Answer::Fails(ErrorKind::PermissionDenied)],
-        Err(SinkFault),
+        REFUSED,
+        1,
         b"",
     ),
     (
@@ -101,33 +164,18 @@ static ROWS: &[Row] = &[
             INTERRUPTED,
             Answer::Fails(ErrorKind::BrokenPipe),
         ],
-        Err(SinkFault),
+        REFUSED,
+        1,
         b"abc",
     ),
+    (
+        "nothing is written where there are no bytes, and a sink that faulted is not closed",
+        &[Answer::Fails(ErrorKind::BrokenPipe)],
+        &[(b"", Ok(())), (b"a", Err(SinkFault)), (b"b", Ok(()))],
+        1,
+        b"b",
+    ),
 ];
-
-/// A sink over a writer of these answers.
-fn answering(alloc: Global, answers: &'static [Answer]) -> WriterSink<AnsweringWriter> {
-    WriterSink::new(AnsweringWriter {
-        answers,
-        taken: Vec::new(alloc),
-    })
-}
-
-/// What an appending of six bytes answers, how often the sink has faulted then, and what its writer took.
-fn appended(alloc: Global, answers: &'static [Answer]) -> (Result<(), SinkFault>, u64, Vec<u8>) {
-    let mut sink = answering(alloc, answers);
-    let answer = sink.append(b"abcdef");
-    let faults = sink.fault_count();
-    (answer, faults, sink.into_writer().taken)
-}
-
-fn is_appended(rt: &impl Abort, alloc: Global, (shows, answers, want, taken): &Row) {
-    let (answer, faults, bytes) = appended(alloc, answers);
-    let wanted = (*want, u64::from(want.is_err()));
-    same(rt, (answer, faults), wanted, shows);
-    same(rt, bytes.as_slice(), *taken, shows);
-}
 
 #[test]
 fn faults_where_a_write_fails_or_takes_nothing(rt: HostRuntime) -> Result<(), Fail> {
@@ -137,40 +185,36 @@ fn faults_where_a_write_fails_or_takes_nothing(rt: HostRuntime) -> Result<(), Fa
     Ok(())
 }
 
-#[test]
-fn writes_nothing_where_there_are_no_bytes(rt: HostRuntime) -> Result<(), Fail> {
-    let mut sink = answering(rt.alloc(), &[Answer::Fails(ErrorKind::BrokenPipe)]);
-    let answers = [sink.append(b""), sink.append(b"a"), sink.append(b"b")];
-    let want = [Ok(()), Err(SinkFault), Ok(())];
-    same(&rt, answers, want, "a sink that faulted is not closed");
-    Ok(())
+fn is_appended(rt: &impl Abort, alloc: Global, (shows, answers, pieces, faults, taken): &Row) {
+    let mut sink = WriterSink::new(AnsweringWriter {
+        answers,
+        taken: Vec::new(alloc),
+    });
+    appends(rt, &mut sink, pieces, *faults, shows);
+    let writer = sink.into_writer();
+    same(rt, writer.taken.as_slice(), *taken, shows);
 }
 
-/// Whether bytes are appended where a writer has room for so many, and what it took.
-fn appended_with_room(alloc: Global, bytes: &[u8], room: usize) -> (bool, Vec<u8>) {
-    let mut sink = WriterSink::new(StoppingWriter::new(alloc, room, 4));
-    let is_appended = sink.append(bytes).is_ok();
-    (is_appended, sink.into_writer().bytes)
-}
-
-fn is_appended_with_room(rt: &impl Abort, alloc: Global, bytes: &[u8], room: usize) {
-    let (is_appended, taken) = appended_with_room(alloc, bytes, room);
-    let front = bytes.get(..room).unwrap_or(bytes);
-    same_with_room(rt, is_appended, room >= bytes.len(), room);
-    same_with_room(rt, taken.as_slice(), front, room);
-}
-
-/// Both are equal; else the test fails at this room.
-fn same_with_room<T: PartialEq + Debug + Drop>(rt: &impl Abort, found: T, want: T, room: usize) {
-    assert_eq!(rt; found, want, "room for {room} bytes");
-}
-
-#[test]
-fn faults_where_the_writer_stops(rt: HostRuntime) -> Result<(), Fail> {
-    let bytes: &[u8] = b"abcdef";
-    for room in 0..bytes.len() + 2 {
-        is_appended_with_room(&rt, rt.alloc(), bytes, room);
+/// The sink answers each of these so, and has then faulted so often.
+fn appends(rt: &impl Abort, sink: &mut impl Sink, pieces: &[Appending], faults: u64, shows: &str) {
+    for (bytes, answer) in pieces {
+        same(rt, sink.append(bytes), *answer, shows);
     }
+    same(rt, sink.fault_count(), faults, shows);
+}
+
+static PIECES: &[Appending] = &[(b"cd", Ok(())), (b"ef", Err(SinkFault)), (b"gh", Ok(()))];
+
+/// A sink that fails at its second turn, behind one byte, over one that took two bytes.
+#[test]
+fn appends_a_front_where_the_script_says_so(rt: HostRuntime) -> Result<(), Fail> {
+    let turns = Vec::from_slice(rt.alloc(), &[Turn::Works, Turn::Fails])?;
+    let mut memory = MemorySink::new(rt.alloc());
+    same(&rt, memory.append(b"ab"), Ok(()), "the first two bytes");
+    let mut sink = ScriptedSink::new(memory, Script::new(turns), 1);
+    appends(&rt, &mut sink, PIECES, 1, "a scripted sink");
+    let found = sink.sink.bytes();
+    same(&rt, found, b"abcdegh".as_slice(), "all bytes");
     Ok(())
 }
 
@@ -179,7 +223,7 @@ fn faults_where_the_writer_stops(rt: HostRuntime) -> Result<(), Fail> {
 fn takes_all_where_memory_is_given(rt: HostRuntime) -> Result<(), Fail> {
     let mut sink = MemorySink::new(rt.alloc());
     for _ in 0..100 {
-        holds(&rt, sink.append(b"abcdef").is_ok(), "six bytes more");
+        same(&rt, sink.append(b"abcdef").is_ok(), true, "six bytes more");
     }
     same(&rt, sink.fault_count(), 0, "faults");
     same(&rt, sink.into_bytes().len(), 600, "bytes");

@@ -7,10 +7,10 @@ ghost use Rattle.thread_stream.specs.Telling.{HasHistory};
 ghost use Rattle.trace_clock.specs.Seats.{clock_of};
 
 use crate::tests::clocks::two_seats;
-use crate::tests::expected::{holds, same};
-use crate::tests::fixtures::{Datum, configured, values};
+use crate::tests::expected::same;
+use crate::tests::fixtures::{Datum, configured, payload, values};
 use crate::tests::traced::TRACED;
-use ctf_types::{ArgFault, Args, Config, Values};
+use ctf_types::{ArgFault, Args, Config};
 use std::alloc::Global;
 use std::test::Fail;
 use thread_stream::{
@@ -61,15 +61,6 @@ fn both(alloc: Global, first: u64, second: u64) -> Result<Two, Fail>
     let seats = two_seats(alloc, 0, 6, first, second)?;
     let config = configured(alloc, TRACED)?;
     both_begun(alloc, &config, seats)
-}
-
-fn number(alloc: Global, n: i64) -> Result<Args, Fail> {
-    let payload = values(alloc, &[Datum::Signed(n)])?;
-    Ok(Args {
-        common: Values::new(alloc),
-        specific: Values::new(alloc),
-        payload,
-    })
 }
 
 /// Traces: the stream stays at its clock.
@@ -130,34 +121,20 @@ fn in_turn(alloc: Global, two: &mut Two, args: &Args) -> Verdicts
     [Some(before), after, Some(traces(&mut two.first, args))]
 }
 
-fn first_behind(alloc: Global, two: &mut Two, told: &Args, args: &Args) -> Verdicts
+/// The second after what the first told, and one of them behind it.
+fn behind(alloc: Global, two: &mut Two, calls: Calls, told: &Args, args: &Args) -> Verdicts
     requires { clock_of two.old.first.clock ≡ clock_of two.old.second.clock }
 {
     let after = second_traces_after(alloc, two, told);
-    [None, after, Some(traces(&mut two.first, args))]
+    let last = match calls {
+        Calls::SecondBehind => traces(&mut two.second, args),
+        _ => traces(&mut two.first, args),
+    };
+    [None, after, Some(last)]
 }
 
-fn second_behind(alloc: Global, two: &mut Two, told: &Args, args: &Args) -> Verdicts
-    requires { clock_of two.old.first.clock ≡ clock_of two.old.second.clock }
-{
-    let after = second_traces_after(alloc, two, told);
-    [None, after, Some(traces(&mut two.second, args))]
-}
-
-/// What is answered to these calls, of which the one after what was told has arguments of its own.
-fn verdicts(alloc: Global, two: &mut Two, calls: Calls, told: &Args, args: &Args) -> Verdicts
-    requires history { HasHistory ⟦<ListBackEnd as BackEnd>⟧ two.old.first }
-    requires clock { clock_of two.old.first.clock ≡ clock_of two.old.second.clock }
-{
-    match calls {
-        Calls::None => [None; 3],
-        Calls::InTurn => in_turn(alloc, two, args),
-        Calls::FirstBehind => first_behind(alloc, two, told, args),
-        Calls::SecondBehind => second_behind(alloc, two, told, args),
-    }
-}
-
-/// Whether a packet is open once two streams of these quotas are made, what they answer to calls, and how many of them the second has discarded then.
+/// Whether a packet is open once two streams of these quotas are made, what they answer to calls, of which the one after what was told has arguments
+/// of its own, and how many of them the second has discarded then.
 fn answers(
     alloc: Global,
     (first, second): (u64, u64),
@@ -166,20 +143,20 @@ fn answers(
     args: &Args,
 ) -> Result<(bool, Verdicts, u64), Fail> {
     let mut two = both(alloc, first, second)?;
-    let are_open = are_open(&two);
-    let verdicts = verdicts(alloc, &mut two, calls, told, args);
+    let are_open = two.first.packet_is_open() || two.second.packet_is_open();
+    let verdicts = match calls {
+        Calls::None => [None; 3],
+        Calls::InTurn => in_turn(alloc, &mut two, args),
+        _ => behind(alloc, &mut two, calls, told, args),
+    };
     Ok((are_open, verdicts, two.second.discarded_count()))
-}
-
-fn are_open(two: &Two) -> bool {
-    two.first.packet_is_open() || two.second.packet_is_open()
 }
 
 #[test]
 fn makes_two_streams_at_one_clock(rt: HostRuntime) -> Result<(), Fail> {
-    let args = number(rt.alloc(), 5)?;
+    let args = payload(rt.alloc(), &[Datum::Signed(5)])?;
     let (are_open, _, _) = answers(rt.alloc(), (3, 3), Calls::None, &args, &args)?;
-    holds(&rt, !are_open, "no packet is open");
+    same(&rt, !are_open, true, "no packet is open");
     Ok(())
 }
 
@@ -191,7 +168,7 @@ static IN_TURN: Verdicts = [
 
 #[test]
 fn traces_after_what_was_told(rt: HostRuntime) -> Result<(), Fail> {
-    let args = number(rt.alloc(), 5)?;
+    let args = payload(rt.alloc(), &[Datum::Signed(5)])?;
     let (_, found, _) = answers(rt.alloc(), (3, 3), Calls::InTurn, &args, &args)?;
     same(&rt, found, IN_TURN, "three calls");
     Ok(())
@@ -203,26 +180,21 @@ static SPENT: Verdicts = [
     Some(Verdict::Accepted(Some(0))),
 ];
 
-#[test]
-fn spends_what_was_told_where_the_clock_is_spent(rt: HostRuntime) -> Result<(), Fail> {
-    let args = number(rt.alloc(), 5)?;
-    let (_, found, discarded) = answers(rt.alloc(), (1, 0), Calls::FirstBehind, &args, &args)?;
-    same(&rt, found, SPENT, "two calls");
-    same(&rt, discarded, 1, "calls that the second discarded");
-    Ok(())
-}
-
 static REFUSED: Verdicts = [
     None,
     Some(Verdict::Misuse(ArgFault::Range)),
     Some(Verdict::Accepted(Some(0))),
 ];
 
+/// What was told is spent where the clock is spent, and nothing is read for a call that is refused before the clock.
 #[test]
-fn reads_nothing_for_a_call_that_is_refused_before_the_clock(rt: HostRuntime) -> Result<(), Fail> {
-    let large = number(rt.alloc(), 40000)?;
-    let small = number(rt.alloc(), 5)?;
-    let (_, found, _) = answers(rt.alloc(), (1, 1), Calls::SecondBehind, &large, &small)?;
-    same(&rt, found, REFUSED, "two calls");
+fn traces_nothing_after_what_was_told(rt: HostRuntime) -> Result<(), Fail> {
+    let large = payload(rt.alloc(), &[Datum::Signed(40000)])?;
+    let small = payload(rt.alloc(), &[Datum::Signed(5)])?;
+    let (_, spent, discarded) = answers(rt.alloc(), (1, 0), Calls::FirstBehind, &small, &small)?;
+    same(&rt, spent, SPENT, "a clock that is spent");
+    same(&rt, discarded, 1, "calls that the second discarded");
+    let (_, refused, _) = answers(rt.alloc(), (1, 1), Calls::SecondBehind, &large, &small)?;
+    same(&rt, refused, REFUSED, "a number out of range");
     Ok(())
 }
