@@ -1,23 +1,13 @@
-//! The configuration of streams with a clock, and what is read of their files.
+//! What is read of the files of streams with a clock.
 
-ghost use Rattle.std.specs.Prelude.{IfOk};
-ghost use Rattle.ctf_types.specs.AllowedConfig.{IsConfig};
-
-use ctf_types::Config;
 use std::alloc::{AllocError, Global};
 use std::test::Fail;
 use trace_stack::{ReadTrace, read_trace};
 use tsdl_writer::write_metadata;
 use worked_fixtures::{CLOCKED, configuration, granted};
 
-pub fn clocked(alloc: Global) -> Result<Config, Fail>
-    ensures { IfOk result (λ c. IsConfig c) }
-{
-    configuration(alloc, CLOCKED)
-}
-
 fn metadata_text(alloc: Global) -> Result<String, Fail> {
-    let config = clocked(alloc)?;
+    let config = configuration(alloc, CLOCKED)?;
     granted(write_metadata(alloc, &config))
 }
 
@@ -30,13 +20,9 @@ pub fn read_back(alloc: Global, files: &[(&str, &[u8])]) -> Result<ReadTrace, Fa
 
 fn owned(alloc: Global, files: &[(&str, &[u8])]) -> Result<Vec<(String, Vec<u8>)>, AllocError> {
     let mut all = Vec::new(alloc);
-    for file in files {
-        all.push(own(alloc, *file)?)?;
+    for (name, bytes) in files {
+        let bytes = Vec::from_slice(alloc, *bytes)?;
+        all.push((String::from_str(alloc, *name)?, bytes))?;
     }
     Ok(all)
-}
-
-fn own(alloc: Global, (name, bytes): (&str, &[u8])) -> Result<(String, Vec<u8>), AllocError> {
-    let bytes = Vec::from_slice(alloc, bytes)?;
-    Ok((String::from_str(alloc, name)?, bytes))
 }

@@ -17,7 +17,6 @@ use ctf_types::{Args, Config};
 use packet_collector::{Collected, FinishAnswer};
 use packet_ring::{RingBackEnd, RingDone, RingEnd, ring};
 use std::alloc::Global;
-use std::process::Abort;
 use std::test::Fail;
 use std::thread;
 use std::thread::Threads;
@@ -43,15 +42,9 @@ fn traces<C: Clock>(
     ensures { IfSome result (λ r. (e : RingEnd) → AreEnds back_end e → e.settled ≡ false → IsOwn e r.1.done) }
 {
     let args = payload(alloc, &[Datum::Unsigned(9)]).ok()?;
-    let config = small(alloc)?;
-    traces_by(clock, flags, alloc, &config, back_end, &args)
-}
-
-fn small(alloc: Global) -> Option<Config>
-    ensures { IfSome result (λ c. IsConfig c) }
-{
     let text = changed(alloc, SMALL, &[]).ok()?;
-    config_of(alloc, text.as_str())
+    let config = config_of(alloc, text.as_str())?;
+    traces_by(clock, flags, alloc, &config, back_end, &args)
 }
 
 fn traces_by<C: Clock>(
@@ -133,15 +126,9 @@ fn in_two_threads<R: Threads + Clock + Sync>(
 
 #[test]
 fn gathers_what_a_thread_left_behind(rt: HostRuntime) -> Result<(), Fail> {
-    let alloc = rt.alloc();
-    let (answer, sink) = in_two_threads(&rt, alloc).ok_or("an answer was another one")?;
+    let want = bytes_of(rt.alloc(), PACKETS)?;
+    let (answer, sink) = in_two_threads(&rt, rt.alloc()).ok_or("an answer was another one")?;
     same(&rt, answer, FinishAnswer::Settled, "the last collection");
-    has_all(&rt, alloc, sink.bytes())
-}
-
-/// These are the bytes of all packets.
-fn has_all(rt: &impl Abort, alloc: Global, found: &[u8]) -> Result<(), Fail> {
-    let want = bytes_of(alloc, PACKETS)?;
-    same(rt, found, want.as_slice(), "the packets");
+    same(&rt, sink.bytes(), want.as_slice(), "the packets");
     Ok(())
 }

@@ -20,7 +20,7 @@ use std::thread;
 use std::thread::Threads;
 use std::time::{Clock, Duration};
 use thread_stream::{Stream, Verdict, calls_are_walks, packets_in_turn, seats_stay_at_their_clock};
-use trace_clock::{Clocked, Message, TickClock, TickSeat};
+use trace_clock::{Clocked, Message, TickSeat};
 use trace_platform::{BackEnd, MemorySink};
 use trace_stack::{ReadTrace, position};
 use worked_fixtures::{CLOCKED, Datum, config_of, payload};
@@ -65,10 +65,6 @@ fn traced<B: BackEnd>(stream: &mut Stream<TickSeat, B>, args: &Args) -> Verdict
     stream.trace(0, args)
 }
 
-fn number(alloc: Global, n: i64) -> Option<Args> {
-    payload(alloc, &[Datum::Signed(n)]).ok()
-}
-
 /// The bytes of the stream's only packet.
 fn collected(alloc: Global, over: OverRing) -> Vec<u8> {
     let OverRing { stream, ring_end } = over;
@@ -81,39 +77,24 @@ fn collected(alloc: Global, over: OverRing) -> Vec<u8> {
     sink.into_bytes()
 }
 
-fn both(alloc: Global) -> Option<(OverRing, OverRing)>
-    ensures history { IfSome result (λ p. HasHistory ⟦<RingBackEnd as BackEnd>⟧ p.0.stream) }
-    ensures clock { IfSome result (λ p. clock_of p.0.stream.clock ≡ clock_of p.1.stream.clock) }
-{
-    let (first, second) = seats(alloc)?;
-    let first = begun(alloc, first)?;
-    let second = begun(alloc, second)?;
-    Some((first, second))
-}
-
-fn seats(alloc: Global) -> Option<(TickSeat, TickSeat)>
-    ensures { IfSome result (λ p. clock_of p.0 ≡ clock_of p.1) }
-{
-    let clock = TickClock::new(alloc, 0, 6).ok()?;
-    two_seats(alloc, clock).ok()
-}
-
 /// The first traces 5 and tells, the second traces 6 after that, and then the first traces 7: what each was answered.
 fn in_turn(alloc: Global, first: &mut Seated, second: &mut Seated) -> Option<[Verdict; 3]>
     requires history { HasHistory ⟦<RingBackEnd as BackEnd>⟧ first.old }
     requires clock { clock_of first.old.clock ≡ clock_of second.old.clock }
 {
-    let before = traced(first, &number(alloc, 5)?);
-    let six = number(alloc, 6)?;
+    let before = traced(first, &payload(alloc, &[Datum::Signed(5)]).ok()?);
+    let six = payload(alloc, &[Datum::Signed(6)]).ok()?;
     let told = first.tell(alloc).ok()?;
     let after = second.trace_after(told, 0, &six);
-    let last = first.trace(0, &number(alloc, 7)?);
+    let last = first.trace(0, &payload(alloc, &[Datum::Signed(7)]).ok()?);
     Some([before, after, last])
 }
 
 /// What both are answered, and the bytes of both.
 fn in_one_thread(alloc: Global) -> Option<([Verdict; 3], Vec<u8>, Vec<u8>)> {
-    let (mut first, mut second) = both(alloc)?;
+    let (first, second) = two_seats(alloc).ok()?;
+    let mut first = begun(alloc, first)?;
+    let mut second = begun(alloc, second)?;
     let answers = in_turn(alloc, &mut first.stream, &mut second.stream);
     let first = collected(alloc, first);
     let second = collected(alloc, second);
@@ -138,13 +119,10 @@ static PLACES: &[(usize, u64, Option<usize>)] = &[
 fn stands_between_what_was_told_and_what_came_after(rt: HostRuntime) -> Result<(), Fail> {
     let (answers, first, second) = in_one_thread(rt.alloc()).ok_or("a stream failed")?;
     same(&rt, answers, ANSWERS, "the answers");
-    let trace = read_both(rt.alloc(), first.as_slice(), second.as_slice())?;
+    let files = [("t0", first.as_slice()), ("t1", second.as_slice())];
+    let trace = read_back(rt.alloc(), &files)?;
     has_places(&rt, &trace);
     Ok(())
-}
-
-fn read_both(alloc: Global, first: &[u8], second: &[u8]) -> Result<ReadTrace, Fail> {
-    read_back(alloc, &[("t0", first), ("t1", second)])
 }
 
 fn has_places(rt: &impl Abort, trace: &ReadTrace) {
@@ -179,9 +157,9 @@ fn tells_between<J: Clocked>(
     requires clock { clock_of stream.old.clock ≡ J.clock }
 {
     let mut channel = channel;
-    traced(stream, &number(alloc, 5)?);
+    traced(stream, &payload(alloc, &[Datum::Signed(5)]).ok()?);
     channel.push(Message::new(stream.tell(alloc).ok()?)).ok()?;
-    stream.trace(0, &number(alloc, 7)?);
+    stream.trace(0, &payload(alloc, &[Datum::Signed(7)]).ok()?);
     Some(())
 }
 
@@ -220,7 +198,7 @@ fn traced_after<J: Clocked, C: Clock>(
 ) -> Option<Verdict>
     requires { clock_of stream.old.clock ≡ J.clock }
 {
-    let six = number(alloc, 6)?;
+    let six = payload(alloc, &[Datum::Signed(6)]).ok()?;
     let message = received(clock, channel)?;
     Some(stream.trace_after(message.into_told(), 0, &six))
 }
@@ -250,32 +228,26 @@ fn in_two_threads<J: Clocked + Send, R: Threads + Clock>(
     Some((answer, first_bytes, second_bytes))
 }
 
-fn run_once<R: Threads + Clock>(rt: &R, alloc: Global) -> Option<(Verdict, Vec<u8>, Vec<u8>)> {
-    let (first, second) = seats(alloc)?;
-    in_two_threads::<Brand, R>(rt, alloc, first, second)
+/// One run, in which the second stream's record stands behind what it was told.
+fn run_once<R: Threads + Clock + Abort>(rt: &R, alloc: Global) -> Result<(), Fail> {
+    let (first, second) = two_seats(alloc)?;
+    let (answer, first, second) = in_two_threads::<Brand, R>(rt, alloc, first, second).ok_or(
+        "a stream failed",
+    )?;
+    let Verdict::Accepted(Some(reading)) = answer else {
+        return Err("the second stream's call was not accepted".into());
+    };
+    let files = [("t0", first.as_slice()), ("t1", second.as_slice())];
+    let trace = read_back(alloc, &files)?;
+    is_behind(rt, &trace, reading)
 }
 
 #[test]
 fn stands_behind_what_another_thread_told(rt: HostRuntime) -> Result<(), Fail> {
     for _run in 0..100 {
-        let (answer, first, second) = run_once(&rt, rt.alloc()).ok_or("a stream failed")?;
-        stands_behind(&rt, rt.alloc(), answer, first.as_slice(), second.as_slice())?;
+        run_once(&rt, rt.alloc())?;
     }
     Ok(())
-}
-
-fn stands_behind(
-    rt: &impl Abort,
-    alloc: Global,
-    answer: Verdict,
-    first: &[u8],
-    second: &[u8],
-) -> Result<(), Fail> {
-    let Verdict::Accepted(Some(reading)) = answer else {
-        return Err("the second stream's call was not accepted".into());
-    };
-    let trace = read_both(alloc, first, second)?;
-    is_behind(rt, &trace, reading)
 }
 
 /// The record with this reading stands behind what was told.

@@ -40,19 +40,9 @@ impl Flag {
 /// A gate of two workers: each one's call 1 waits until the other's call 1 is asked for.
 #[derive(Drop)]
 pub struct Meeting<'c, C> {
-    clock: &'c C,
-    first: Flag,
-    second: Flag,
-}
-
-impl<'c, C> Meeting<'c, C> {
-    pub fn new(clock: &'c C) -> Meeting<'c, C> {
-        Meeting {
-            clock,
-            first: Flag::new(),
-            second: Flag::new(),
-        }
-    }
+    pub clock: &'c C,
+    pub first: Flag,
+    pub second: Flag,
 }
 
 impl<'c, C: Clock> Gate for Meeting<'c, C> {

@@ -6,22 +6,19 @@ ghost use Rattle.trace_clock.specs.Seats.{clock_of};
 ghost use Rattle.trace_stack.specs.Workers.{IsWorker};
 ghost use Rattle.trace_stack.specs.Working.{IsOfStream};
 
-use ctf_types::Text;
+use ctf_types::{Text, Values};
 use packet_ring::ring;
 use std::alloc::Global;
 use std::test::Fail;
 use trace_clock::{ClockFault, TickClock, TickSeat};
 use trace_stack::{Act, Worker};
-use worked_fixtures::{call_in_words, values_in_words};
+use worked_fixtures::call_in_words;
 
-/// What a worker is told, over a ring of one place.
+/// What a worker of the stream type `s` is told, over a ring of one place.
 #[derive(Clone, Copy)]
 pub struct Task {
-    pub type_name: &'static str,
     /// The length of a packet.
     pub bytes: usize,
-    /// The values of the extra members, with blanks between them.
-    pub extras: &'static str,
     /// Its calls, a line each.
     pub calls: &'static str,
 }
@@ -41,8 +38,7 @@ pub fn worker<W: Drop>(
     if bytes == 0 || bytes > 1 << 20 {
         return Err("no such ring".into());
     }
-    let type_name = Text::from_str(alloc, task.type_name)?;
-    let extras = values_in_words(alloc, task.extras)?;
+    let type_name = Text::from_str(alloc, "s")?;
     let acts = acts(alloc, task.calls)?;
     let (back_end, ring_end) = ring(alloc, 1, bytes)?;
     Ok(Worker {
@@ -50,18 +46,20 @@ pub fn worker<W: Drop>(
         seat,
         back_end,
         ring_end,
-        extras,
+        extras: Values::new(alloc),
         sink,
         acts,
         start: None,
     })
 }
 
-/// Two seats of the clock, of three readings each.
-pub fn two_seats(alloc: Global, clock: TickClock) -> Result<(TickSeat, TickSeat), ClockFault>
+/// Two seats of one clock, of three readings each.
+pub fn two_seats(alloc: Global) -> Result<(TickSeat, TickSeat), ClockFault>
     ensures { IfOk result (λ p. clock_of p.0 ≡ clock_of p.1) }
 {
-    let mut clock = clock;
+    let Ok(mut clock) = TickClock::new(alloc, 0, 6) else {
+        return Err(ClockFault::OutOfMemory);
+    };
     let first = clock.seat(alloc, 3)?;
     let second = clock.seat(alloc, 3)?;
     Ok((first, second))
@@ -83,16 +81,12 @@ fn own_act(alloc: Global, line: &str) -> Result<Act, Fail>
 {
     let (word, data) = line.split_once(" ").unwrap_or((line, ""));
     match word {
-        "trace" => traced(alloc, data),
+        "trace" => {
+            let (event, args) = call_in_words(alloc, data)?;
+            Ok(Act::Trace(event, args))
+        }
         "open" => Ok(Act::OpenPacket),
         "close" => Ok(Act::ClosePacket),
         _ => Err("no such call".into()),
     }
-}
-
-fn traced(alloc: Global, data: &str) -> Result<Act, Fail>
-    ensures { IfOk result (λ act. IsOfStream act) }
-{
-    let (event, args) = call_in_words(alloc, data)?;
-    Ok(Act::Trace(event, args))
 }

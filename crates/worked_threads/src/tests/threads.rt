@@ -6,11 +6,11 @@ ghost use Rattle.ctf_types.specs.AllowedConfig.{IsConfig};
 ghost use Rattle.trace_clock.specs.Seats.{clock_of};
 ghost use Rattle.trace_stack.specs.Workers.{IsWorker, OfOneClock};
 
-use crate::tests::clocked_streams::{clocked, read_back};
+use crate::tests::clocked_streams::read_back;
 use crate::tests::expected::same;
 use crate::tests::thread_gates::{Collecting, Flag, FlaggingSink, Meeting, Shutting};
 use crate::tests::thread_steps::{Task, two_seats, worker};
-use ctf_types::{ArgFault, Config};
+use ctf_types::{Config, Metadata};
 use packet_collector::FinishAnswer;
 use packet_reader::ReadStream;
 use std::alloc::{AllocError, Global};
@@ -19,19 +19,15 @@ use std::sync::Wait;
 use std::test::Fail;
 use std::thread::Threads;
 use std::time::Clock;
-use thread_stream::StreamFault;
+use thread_stream::{PacketAnswer, StreamFault, Verdict, Why};
 use trace_clock::{TickClock, TickSeat};
-use trace_platform::{MemorySink, Sink};
-use trace_stack::{
-    Answer, Gate, NotRun, OpenGate, ReadTrace, ThreadsFault, ThreadsRun, Worker, run_threads,
-};
-use worked_fixtures::{bytes_of, shown_streams, small};
+use trace_platform::MemorySink;
+use trace_stack::{Answer, Gate, NotRun, ReadTrace, ThreadsFault, ThreadsRun, Worker, run_threads};
+use worked_fixtures::{CLOCKED, bytes_of, configuration, shown_streams, small};
 
 /// Two event records in one packet of 64 bytes, and one more for which the clock has no reading left.
 pub const TWO_RECORDS: Task = Task {
-    type_name: "s",
     bytes: 64,
-    extras: "",
     calls: r#"
 trace 0 -2
 trace 1 ok
@@ -54,7 +50,7 @@ pub fn two_workers(alloc: Global, second: &Task) -> Result<Vec<Worker<MemorySink
     ensures clock { IfOk result (λ ws. OfOneClock ws.items) }
     ensures anew { IfOk result (λ ws. All (λ w. w.start ≡ None) ws.items) }
 {
-    let (first_seat, second_seat) = two_seats(alloc, TickClock::new(alloc, 0, 6)?)?;
+    let (first_seat, second_seat) = two_seats(alloc)?;
     let first = worker(alloc, first_seat, &TWO_RECORDS, MemorySink::new(alloc))?;
     let second = worker(alloc, second_seat, second, MemorySink::new(alloc))?;
     in_one_list(alloc, first, second)
@@ -84,7 +80,7 @@ pub fn run_two<R: Threads + Wait, G: Gate + Sync>(
     second: &Task,
     gate: &G,
 ) -> Result<Ran, Fail> {
-    let config = clocked(alloc)?;
+    let config = configuration(alloc, CLOCKED)?;
     run_two_by(rt, alloc, &config, second, gate)
 }
 
@@ -114,26 +110,6 @@ fn both_run<R: Threads + Wait, G: Gate + Sync>(
     }
 }
 
-/// What is left of workers of which none is refused.
-#[tactic(auto, using(trace_stack::proofs::Anew::all_begin_anew))]
-fn run_all<R: Threads + Wait, W: Sink + Drop, G: Gate + Sync>(
-    rt: &R,
-    alloc: Global,
-    config: &Config,
-    workers: Vec<Worker<W>>,
-    gate: &G,
-) -> Result<ThreadsRun<W>, Fail>
-    requires config { IsConfig config.now }
-    requires workers { All IsWorker workers.items }
-    requires clock { OfOneClock workers.items }
-    requires anew { All (λ w. w.start ≡ None) workers.items }
-{
-    match run_threads(rt, alloc, config, workers, gate) {
-        Ok(run) => Ok(run),
-        Err(_) => Err("the workers were refused".into()),
-    }
-}
-
 /// The run ended so.
 fn ends_so<W>(
     rt: &impl Abort,
@@ -145,25 +121,8 @@ fn ends_so<W>(
     same(rt, run.ends.as_slice(), ends, "the ends");
 }
 
-/// The readings of a stream's first packet: of its first two event records, and of its end.
-fn readings_of(stream: &ReadStream) -> Option<[u64; 3]> {
-    let packet = stream.packets.get(0)?;
-    let first = packet.records.get(0)?.clock?;
-    let second = packet.records.get(1)?.clock?;
-    Some([first, second, packet.end?])
-}
-
-/// What a worker of two event records is told, with these readings.
-fn told(alloc: Global, readings: [u64; 3]) -> Result<String, AllocError> {
-    let [first, second, _] = readings;
-    format!(in alloc;
-        "[Traced(Accepted(Some({first}))), Traced(Accepted(Some({second}))), Packet(Done), Traced(Discarded(ClockSpent))]"
-    )
-}
-
-/// What is read of its stream.
-fn written(alloc: Global, readings: [u64; 3]) -> Result<String, AllocError> {
-    let [first, second, last] = readings;
+/// What is read of the stream of a worker of two event records, with these readings: of the records, and of the packet's end.
+fn written(alloc: Global, [first, second, last]: [u64; 3]) -> Result<String, AllocError> {
     format!(in alloc;
         "t: clock clk, gaps Some(0), end Whole
   packet of 0: begin Some({first}), end Some({last}), number Some(0), discarded Some(0), extras []
@@ -173,31 +132,34 @@ fn written(alloc: Global, readings: [u64; 3]) -> Result<String, AllocError> {
     )
 }
 
-/// The readings of the stream of this worker, which was told just what is read of it.
+/// The readings of this stream, of which just that is read which its worker was told.
 fn as_told(
     rt: &impl Abort,
     alloc: Global,
-    trace: &ReadTrace,
-    answers: &[Vec<Answer>],
-    worker: usize,
-) -> Result<[u64; 3], Fail> {
-    let stream = trace.streams.get(worker).ok_or("no stream")?;
-    let answers = answers.get(worker).ok_or("no answers")?;
-    let readings = readings_of(stream).ok_or("fewer than two event records")?;
-    is_told(rt, alloc, answers.as_slice(), readings)?;
-    Ok(readings)
-}
-
-fn is_told(
-    rt: &impl Abort,
-    alloc: Global,
+    metadata: &Metadata,
+    streams: &[ReadStream],
     answers: &[Answer],
-    readings: [u64; 3],
-) -> Result<(), AllocError> {
-    let found = format!(in alloc; "{answers:?}")?;
-    let want = told(alloc, readings)?;
-    same(rt, found.as_str(), want.as_str(), "the answers");
-    Ok(())
+) -> Result<[u64; 3], Fail> {
+    let [
+        Answer::Traced(Verdict::Accepted(Some(first))),
+        Answer::Traced(Verdict::Accepted(Some(second))),
+        Answer::Packet(PacketAnswer::Done),
+        Answer::Traced(Verdict::Discarded(Why::ClockSpent)),
+    ] = answers
+    else {
+        return Err("other answers".into());
+    };
+    let stream = streams.first().ok_or("no stream")?;
+    let packet = stream.packets.get(0).ok_or("no packet")?;
+    let readings = [
+        *first,
+        *second,
+        packet.end.ok_or("a packet without an end")?,
+    ];
+    let found = shown_streams(alloc, metadata, streams)?;
+    let want = written(alloc, readings)?;
+    same(rt, found.as_str(), want.as_str(), "the stream");
+    Ok(readings)
 }
 
 /// Two workers, each of which was told just what is read of its stream, have all readings.
@@ -207,45 +169,29 @@ fn have_all_readings(
     trace: &ReadTrace,
     answers: &[Vec<Answer>],
 ) -> Result<(), Fail> {
-    let first = as_told(rt, alloc, trace, answers, 0)?;
-    let second = as_told(rt, alloc, trace, answers, 1)?;
-    are_written(rt, alloc, trace, first, second)?;
-    let all = in_order(alloc, first, second)?;
+    let [one, other] = answers else {
+        return Err("not two workers".into());
+    };
+    let metadata = &trace.metadata;
+    let streams = trace.streams.as_slice().get(..1).ok_or("no stream")?;
+    let others = trace.streams.as_slice().get(1..).ok_or("no second stream")?;
+    let first = as_told(rt, alloc, metadata, streams, one.as_slice())?;
+    let second = as_told(rt, alloc, metadata, others, other.as_slice())?;
+    let mut all = Vec::from_slice(alloc, &first)?;
+    all.extend_from_slice(&second)?;
+    all.sort()?;
     same(rt, all.as_slice(), READINGS, "the readings");
     Ok(())
 }
 
-/// This is read of both their streams.
-fn are_written(
-    rt: &impl Abort,
-    alloc: Global,
-    trace: &ReadTrace,
-    first: [u64; 3],
-    second: [u64; 3],
-) -> Result<(), AllocError> {
-    let found = shown_streams(alloc, &trace.metadata, trace.streams.as_slice())?;
-    let want = both_written(alloc, first, second)?;
-    same(rt, found.as_str(), want.as_str(), "the streams");
-    Ok(())
-}
-
-/// What is read of both their streams.
-fn both_written(alloc: Global, first: [u64; 3], second: [u64; 3]) -> Result<String, AllocError> {
-    let mut text = written(alloc, first)?;
-    text.push_str(written(alloc, second)?.as_str())?;
-    Ok(text)
-}
-
-fn in_order(alloc: Global, first: [u64; 3], second: [u64; 3]) -> Result<Vec<u64>, AllocError> {
-    let mut all = Vec::from_slice(alloc, &first)?;
-    all.extend_from_slice(&second)?;
-    all.sort()?;
-    Ok(all)
-}
-
 #[test]
 fn runs_two_workers_at_once_over_one_clock(rt: HostRuntime) -> Result<(), Fail> {
-    let run = both_run(&rt, rt.alloc(), &Meeting::new(&rt))?;
+    let meeting = Meeting {
+        clock: &rt,
+        first: Flag::new(),
+        second: Flag::new(),
+    };
+    let run = both_run(&rt, rt.alloc(), &meeting)?;
     ends_so(&rt, &run, None, BOTH_SETTLED);
     let [first, second] = run.sinks.as_slice() else {
         return Err("not two sinks".into());
@@ -257,9 +203,7 @@ fn runs_two_workers_at_once_over_one_clock(rt: HostRuntime) -> Result<(), Fail> 
 
 /// Two packets without event records.
 const TWO_PACKETS: Task = Task {
-    type_name: "s",
     bytes: 16,
-    extras: "",
     calls: r#"
 open
 close
@@ -273,19 +217,13 @@ fn flagging<'f>(alloc: Global, flag: &'f Flag) -> Result<Vec<Worker<FlaggingSink
     ensures clock { IfOk result (λ ws. OfOneClock ws.items) }
     ensures anew { IfOk result (λ ws. All (λ w. w.start ≡ None) ws.items) }
 {
-    let seat = lone_seat(alloc)?;
+    let seat = TickClock::new(alloc, 0, 0)?.seat(alloc, 0)?;
     let sink = FlaggingSink {
         sink: MemorySink::new(alloc),
         flag,
     };
     let worker = worker(alloc, seat, &TWO_PACKETS, sink)?;
     alone(alloc, worker)
-}
-
-/// A seat without readings.
-fn lone_seat(alloc: Global) -> Result<TickSeat, Fail> {
-    let mut clock = TickClock::new(alloc, 0, 0)?;
-    Ok(clock.seat(alloc, 0)?)
 }
 
 /// One worker.
@@ -312,6 +250,8 @@ fn run_flagging<'f, R: Threads + Wait + Clock + Sync>(
     run_flagging_by(rt, alloc, &config, flag)
 }
 
+/// The worker is not refused.
+#[tactic(auto, using(trace_stack::proofs::Anew::all_begin_anew))]
 fn run_flagging_by<'f, R: Threads + Wait + Clock + Sync>(
     rt: &R,
     alloc: Global,
@@ -321,7 +261,10 @@ fn run_flagging_by<'f, R: Threads + Wait + Clock + Sync>(
     requires { IsConfig config.now }
 {
     let workers = flagging(alloc, flag)?;
-    run_all(rt, alloc, config, workers, &Collecting { clock: rt, flag })
+    match run_threads(rt, alloc, config, workers, &Collecting { clock: rt, flag }) {
+        Ok(run) => Ok(run),
+        Err(_) => Err("the worker was refused".into()),
+    }
 }
 
 #[test]
@@ -358,88 +301,11 @@ fn has_two_packets(
 fn tells_that_the_gate_shut(rt: HostRuntime) -> Result<(), Fail> {
     let run = both_run(&rt, rt.alloc(), &Shutting { calls: 1 })?;
     ends_so(&rt, &run, Some(ThreadsFault::GateShut), BOTH_SETTLED);
-    are_answered_once(&rt, run.answers.as_slice());
+    let [first, second] = run.answers.as_slice() else {
+        return Err("not two workers".into());
+    };
+    same(&rt, (first.len(), second.len()), (1, 1), "answers");
     Ok(())
-}
-
-fn are_answered_once(rt: &impl Abort, answers: &[Vec<Answer>]) {
-    for answers in answers {
-        same(rt, answers.len(), 1, "how many answers");
-    }
-}
-
-fn run_none<R: Threads + Wait>(rt: &R, alloc: Global) -> Result<ThreadsRun<MemorySink>, Fail> {
-    let config = small(alloc, &[])?;
-    run_all(rt, alloc, &config, Vec::new(alloc), &OpenGate)
-}
-
-#[test]
-fn runs_no_worker_where_there_is_none(rt: HostRuntime) -> Result<(), Fail> {
-    let run = run_none(&rt, rt.alloc())?;
-    ends_so(&rt, &run, None, &[]);
-    let left = (run.answers.len(), run.sinks.len());
-    same(&rt, left, (0, 0), "how many answers and sinks");
-    Ok(())
-}
-
-/// What the second of two workers is told, and why it is refused.
-static REFUSED: &[(&str, Task, StreamFault)] = &[
-    (
-        "no such data stream type",
-        Task {
-            type_name: "t",
-            ..TWO_RECORDS
-        },
-        StreamFault::NoSuchStream,
-    ),
-    (
-        "an extra member that the type has not",
-        Task {
-            extras: "1",
-            ..TWO_RECORDS
-        },
-        StreamFault::BadExtras(ArgFault::Count),
-    ),
-    (
-        "a buffer that is too small for the packet's header and context",
-        Task {
-            bytes: 16,
-            ..TWO_RECORDS
-        },
-        StreamFault::BufferTooSmall,
-    ),
-    (
-        "a buffer whose length a size field does not hold",
-        Task {
-            bytes: 8192,
-            ..TWO_RECORDS
-        },
-        StreamFault::SizeField,
-    ),
-];
-
-#[test]
-fn hands_all_back_before_the_first_thread(rt: HostRuntime) -> Result<(), Fail> {
-    for (shows, task, fault) in REFUSED {
-        are_refused(&rt, rt.alloc(), shows, task, *fault)?;
-    }
-    Ok(())
-}
-
-fn are_refused<R: Threads + Wait + Abort>(
-    rt: &R,
-    alloc: Global,
-    shows: &str,
-    second: &Task,
-    fault: StreamFault,
-) -> Result<(), Fail> {
-    match run_two(rt, alloc, second, &OpenGate)? {
-        Ok(_) => Err("the workers were run".into()),
-        Err(refused) => {
-            are_handed_back(rt, &refused, fault, shows);
-            Ok(())
-        }
-    }
 }
 
 /// Both workers were refused for this fault, and are as they were.

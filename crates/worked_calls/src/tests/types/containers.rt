@@ -8,6 +8,7 @@ use std::test::Fail;
 #[test]
 fn bytes_of_a_vector_and_back(rt: HostRuntime) -> Result<(), Fail> {
     let alloc = rt.alloc();
+    same(&rt, Bytes::new(alloc).is_empty(), true, "no bytes");
     let mut bytes = Bytes::from_vec(Vec::from_slice(alloc, b"ab")?);
     bytes.extend_from_slice(b"cde")?;
     same(&rt, bytes.as_slice(), b"abcde".as_slice(), "extended");
