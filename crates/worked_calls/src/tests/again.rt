@@ -4,7 +4,7 @@
 ghost use Rattle.std.specs.Prelude.{IfOk};
 ghost use Rattle.ctf_types.specs.AllowedConfig.{IsConfig};
 
-use crate::tests::expected::same;
+use crate::tests::expected::{holds, same, same_text};
 use crate::tests::fixtures::configured;
 use ctf_types::{ByteOrder, Bytes, Config, Duplicate, StructType, Value, Values};
 use packet_collector::Collector;
@@ -73,7 +73,7 @@ fn shown_copies(alloc: Global, values: &Values) -> Result<String, Fail> {
 fn copies_values(rt: HostRuntime) -> Result<(), Fail> {
     let values = some_values(rt.alloc())?;
     let found = shown_copies(rt.alloc(), &values)?;
-    same(&rt, found.as_str(), COPIED, "copies");
+    same_text(&rt, found.as_str(), COPIED, "copies");
     Ok(())
 }
 
@@ -172,9 +172,9 @@ fn shown_list(alloc: Global, s: &StructType) -> Result<String, Fail> {
 fn reads_structures(rt: HostRuntime) -> Result<(), Fail> {
     let s = structure(rt.alloc())?;
     let read = shown_struct(rt.alloc(), &s)?;
-    same(&rt, read.as_str(), READ, "a structure");
+    same_text(&rt, read.as_str(), READ, "a structure");
     let list = shown_list(rt.alloc(), &s)?;
-    same(&rt, list.as_str(), LIST, "its third member");
+    same_text(&rt, list.as_str(), LIST, "its third member");
     Ok(())
 }
 
@@ -248,7 +248,7 @@ fn appends_what_was_refused(rt: HostRuntime) -> Result<(), Fail> {
     for count in 0..20 {
         appends_six(&rt, &mut sink, count * 6);
     }
-    same(&rt, begins_twice(sink.bytes()), true, "the bytes");
+    holds(&rt, begins_twice(sink.bytes()), "the bytes");
     Ok(())
 }
 

@@ -3,7 +3,7 @@
 ghost use Rattle.std.specs.Prelude.{◌≡◌, ◌+◌, ◌<◌, ◌^◌, IfOk};
 ghost use Rattle.trace_clock.specs.Seats.{SameClock, clock_of, told_clock};
 
-use crate::tests::expected::same;
+use crate::tests::expected::{holds, same};
 use std::alloc::{AllocError, Global};
 use std::test::Fail;
 use std::thread;
@@ -32,7 +32,7 @@ fn gives_no_more_readings_than_its_total(rt: HostRuntime) -> Result<(), Fail> {
     let mut clock = TickClock::new(rt.alloc(), 0, 3)?;
     let mut seat = clock.seat(rt.alloc(), 2)?;
     let refused = matches!(clock.seat(rt.alloc(), 2), Err(ClockFault::QuotaSpent));
-    same(&rt, refused, true, "a quota that the clock has not");
+    holds(&rt, refused, "a quota that the clock has not");
     let readings = [seat.read(), seat.read(), seat.read()];
     let want = [Ok(0), Ok(1), Err(ClockSpent)];
     same(&rt, readings, want, "three readings");
@@ -95,30 +95,23 @@ fn reading_after(seat: &mut TickSeat, told: Told) -> Result<u64, ClockSpent>
     seat.read_after(told)
 }
 
-/// The seat that joins had two readings left.
+/// The second seat has one reading, and two more once the first one joins it.
 #[test]
 fn reads_after_what_was_told_and_joins(rt: HostRuntime) -> Result<(), Fail> {
     let (mut first, mut second) = two_seats(rt.alloc(), 0, 5, 4, 1)?;
     let before = reading(&mut first);
     let told = first.tell(rt.alloc())?;
     let after = reading_after(&mut second, told);
-    let readings = [before, after, reading(&mut first)];
-    same(&rt, readings, [Ok(0), Ok(1), Ok(2)], "one after the other");
+    let told = first.tell(rt.alloc())?;
+    let spent = reading_after(&mut second, told);
+    let readings = [before, after, spent, reading(&mut first)];
+    let want = [Ok(0), Ok(1), Err(ClockSpent), Ok(2)];
+    same(&rt, readings, want, "one after the other");
+    same(&rt, second.spent_count(), 1, "readings that were refused");
     second.join(first);
     let joined = [second.read(), second.read(), second.read()];
     let want = [Ok(3), Ok(4), Err(ClockSpent)];
     same(&rt, joined, want, "the quota of the seat that joined");
-    Ok(())
-}
-
-#[test]
-fn refuses_after_being_told_where_the_quota_is_spent(rt: HostRuntime) -> Result<(), Fail> {
-    let (mut first, mut second) = two_seats(rt.alloc(), 0, 1, 1, 0)?;
-    let told = first.tell(rt.alloc())?;
-    let spent = second.read_after(told);
-    same(&rt, second.spent_count(), 1, "readings that were refused");
-    let readings = [spent, first.read()];
-    same(&rt, readings, [Err(ClockSpent), Ok(0)], "two readings");
     Ok(())
 }
 

@@ -1,7 +1,5 @@
 //! What a proof does not see: that each call can be made, and which memory is kept.
 
-ghost use Rattle.ctf_types.specs.Laws.{AreAutomatic};
-
 use crate::tests::expected::same;
 use crate::tests::fixtures::{Datum, Kind, structure, values};
 use ctf_types::{ByteOrder, Bytes, StructType, Value, Values, fits, size_from};
@@ -25,23 +23,17 @@ const WRITTEN: [u8; 21] = [
     0, 0, 0, 0, 0, 0, 0, 0, 0, 0, 0, 0, 1, 0, 0, 0, 0, 0, 0, 0, 2,
 ];
 
-/// Zero bytes, with these values written from bit 96 up to bit 168.
-fn written(s: &StructType, values: &[Value]) -> Result<[u8; 21], Fail>
-    requires { AreAutomatic s.now.members }
-{
-    if fits(s, values).is_err() || size_from(s, values, 96) != Some(168) {
-        return Err("values that do not fit".into());
-    }
-    let mut bytes = [0; 21];
-    write_struct(&mut bytes, 96, ByteOrder::Little, s, values);
-    Ok(bytes)
-}
-
+/// The values are written into zero bytes from bit 96 up to bit 168.
 #[test]
 fn writes_a_structure(rt: HostRuntime) -> Result<(), Fail> {
     let s = structure(rt.alloc(), MEMBERS)?;
     let given = values(rt.alloc(), VALUES)?;
-    let bytes = written(&s, given.as_slice())?;
+    if fits(&s, given.as_slice()).is_err() || size_from(&s, given.as_slice(), 96) != Some(168) {
+        return Err("values that do not fit".into());
+    }
+    let mut bytes = [0; 21];
+    let end = write_struct(&mut bytes, 96, ByteOrder::Little, &s, given.as_slice());
+    same(&rt, end, 168, "the end");
     same(&rt, bytes, WRITTEN, "the bytes");
     Ok(())
 }

@@ -106,15 +106,6 @@ fn list(alloc: Global, numbers: &[u64]) -> Result<Values, AllocError> {
     Ok(values)
 }
 
-/// Arguments whose payload is these values.
-pub fn payload(alloc: Global, data: &[Datum]) -> Result<Args, AllocError> {
-    Ok(Args {
-        common: Values::new(alloc),
-        specific: Values::new(alloc),
-        payload: values(alloc, data)?,
-    })
-}
-
 /// Arguments of a number, a signed number and a text, one in each structure.
 pub fn arguments(
     alloc: Global,

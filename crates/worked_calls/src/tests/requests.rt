@@ -3,7 +3,7 @@
 
 ghost use Rattle.std.specs.Prelude.{IfOk, ◌≡◌, ◌<◌, length};
 
-use crate::tests::expected::same;
+use crate::tests::expected::{holds, same};
 use crate::tests::fixtures::{Datum, values};
 use crate::tests::traced::{Traced, Turns, WORKS, parts_of, traced};
 use ctf_types::{ArgFault, Args, Values};
@@ -423,12 +423,12 @@ fn makes_streams_and_calls_each_row(rt: HostRuntime) -> Result<(), Fail> {
     let mut needs = needs;
     let mut streams = streams;
     let called = first_calls_each_row(&rt, &mut needs, &mut streams);
-    same(&rt, called, true, "a stream for each row");
+    holds(&rt, called, "a stream for each row");
     let given_back = last_gives_its_parts_back(&mut streams);
-    same(&rt, given_back, true, "an idle stream");
+    holds(&rt, given_back, "an idle stream");
     let ended = last_ends(&rt, &mut streams, collector);
-    same(&rt, ended, true, "a stream that ends whole");
+    holds(&rt, ended, "a stream that ends whole");
     let left = last_leaves_its_packet(&mut streams);
-    same(&rt, left, true, "a packet is left");
+    holds(&rt, left, "a packet is left");
     Ok(())
 }

@@ -7,10 +7,10 @@ ghost use Rattle.thread_stream.specs.Telling.{HasHistory};
 ghost use Rattle.trace_clock.specs.Seats.{clock_of};
 
 use crate::tests::clocks::two_seats;
-use crate::tests::expected::same;
-use crate::tests::fixtures::{Datum, configured, payload, values};
+use crate::tests::expected::{holds, same};
+use crate::tests::fixtures::{Datum, configured, values};
 use crate::tests::traced::TRACED;
-use ctf_types::{ArgFault, Args, Config};
+use ctf_types::{ArgFault, Args, Config, Values};
 use std::alloc::Global;
 use std::test::Fail;
 use thread_stream::{
@@ -61,6 +61,15 @@ fn both(alloc: Global, first: u64, second: u64) -> Result<Two, Fail>
     let seats = two_seats(alloc, 0, 6, first, second)?;
     let config = configured(alloc, TRACED)?;
     both_begun(alloc, &config, seats)
+}
+
+fn number(alloc: Global, n: i64) -> Result<Args, Fail> {
+    let payload = values(alloc, &[Datum::Signed(n)])?;
+    Ok(Args {
+        common: Values::new(alloc),
+        specific: Values::new(alloc),
+        payload,
+    })
 }
 
 /// Traces: the stream stays at its clock.
@@ -154,9 +163,9 @@ fn answers(
 
 #[test]
 fn makes_two_streams_at_one_clock(rt: HostRuntime) -> Result<(), Fail> {
-    let args = payload(rt.alloc(), &[Datum::Signed(5)])?;
+    let args = number(rt.alloc(), 5)?;
     let (are_open, _, _) = answers(rt.alloc(), (3, 3), Calls::None, &args, &args)?;
-    same(&rt, !are_open, true, "no packet is open");
+    holds(&rt, !are_open, "no packet is open");
     Ok(())
 }
 
@@ -168,7 +177,7 @@ static IN_TURN: Verdicts = [
 
 #[test]
 fn traces_after_what_was_told(rt: HostRuntime) -> Result<(), Fail> {
-    let args = payload(rt.alloc(), &[Datum::Signed(5)])?;
+    let args = number(rt.alloc(), 5)?;
     let (_, found, _) = answers(rt.alloc(), (3, 3), Calls::InTurn, &args, &args)?;
     same(&rt, found, IN_TURN, "three calls");
     Ok(())
@@ -189,8 +198,8 @@ static REFUSED: Verdicts = [
 /// What was told is spent where the clock is spent, and nothing is read for a call that is refused before the clock.
 #[test]
 fn traces_nothing_after_what_was_told(rt: HostRuntime) -> Result<(), Fail> {
-    let large = payload(rt.alloc(), &[Datum::Signed(40000)])?;
-    let small = payload(rt.alloc(), &[Datum::Signed(5)])?;
+    let large = number(rt.alloc(), 40000)?;
+    let small = number(rt.alloc(), 5)?;
     let (_, spent, discarded) = answers(rt.alloc(), (1, 0), Calls::FirstBehind, &small, &small)?;
     same(&rt, spent, SPENT, "a clock that is spent");
     same(&rt, discarded, 1, "calls that the second discarded");

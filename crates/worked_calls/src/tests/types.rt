@@ -5,9 +5,9 @@ mod copies;
 mod refills;
 
 use crate::tests::expected::same;
-use crate::tests::fixtures::{Datum, Kind, configured, payload, structure, values};
+use crate::tests::fixtures::{Datum, Kind, configured, structure, values};
 use ctf_types::{
-    ArgFault, Config, Value, Values, align_of, call_faults, fits, members_size, size_from,
+    ArgFault, Args, Config, Value, Values, align_of, call_faults, fits, members_size, size_from,
 };
 use std::alloc::Global;
 use std::process::Abort;
@@ -121,7 +121,11 @@ fn first_faults_of_a_call(rt: HostRuntime) -> Result<(), Fail> {
 fn calls_have_faults(rt: &impl Abort, alloc: Global, config: &Config) -> Result<(), Fail> {
     let stream = config.streams.get(0).ok_or("no stream")?;
     for (event, data, expected) in CALLS {
-        let args = payload(alloc, data)?;
+        let args = Args {
+            common: Values::new(alloc),
+            specific: Values::new(alloc),
+            payload: values(alloc, data)?,
+        };
         same(rt, call_faults(stream, *event, &args), *expected, "a call");
     }
     Ok(())

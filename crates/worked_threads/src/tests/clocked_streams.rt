@@ -1,13 +1,23 @@
-//! What is read of the files of streams with a clock.
+//! The configuration of streams with a clock, and what is read of their files.
 
+ghost use Rattle.std.specs.Prelude.{IfOk};
+ghost use Rattle.ctf_types.specs.AllowedConfig.{IsConfig};
+
+use ctf_types::Config;
 use std::alloc::{AllocError, Global};
 use std::test::Fail;
 use trace_stack::{ReadTrace, read_trace};
 use tsdl_writer::write_metadata;
 use worked_fixtures::{CLOCKED, configuration, granted};
 
+pub fn clocked(alloc: Global) -> Result<Config, Fail>
+    ensures { IfOk result (λ c. IsConfig c) }
+{
+    configuration(alloc, CLOCKED)
+}
+
 fn metadata_text(alloc: Global) -> Result<String, Fail> {
-    let config = configuration(alloc, CLOCKED)?;
+    let config = clocked(alloc)?;
     granted(write_metadata(alloc, &config))
 }
 

@@ -231,9 +231,8 @@ fn in_two_threads<J: Clocked + Send, R: Threads + Clock>(
 /// One run, in which the second stream's record stands behind what it was told.
 fn run_once<R: Threads + Clock + Abort>(rt: &R, alloc: Global) -> Result<(), Fail> {
     let (first, second) = two_seats(alloc)?;
-    let (answer, first, second) = in_two_threads::<Brand, R>(rt, alloc, first, second).ok_or(
-        "a stream failed",
-    )?;
+    let run = in_two_threads::<Brand, R>(rt, alloc, first, second);
+    let (answer, first, second) = run.ok_or("a stream failed")?;
     let Verdict::Accepted(Some(reading)) = answer else {
         return Err("the second stream's call was not accepted".into());
     };

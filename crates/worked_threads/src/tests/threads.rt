@@ -6,7 +6,7 @@ ghost use Rattle.ctf_types.specs.AllowedConfig.{IsConfig};
 ghost use Rattle.trace_clock.specs.Seats.{clock_of};
 ghost use Rattle.trace_stack.specs.Workers.{IsWorker, OfOneClock};
 
-use crate::tests::clocked_streams::read_back;
+use crate::tests::clocked_streams::{clocked, read_back};
 use crate::tests::expected::same;
 use crate::tests::thread_gates::{Collecting, Flag, FlaggingSink, Meeting, Shutting};
 use crate::tests::thread_steps::{Task, two_seats, worker};
@@ -23,7 +23,7 @@ use thread_stream::{PacketAnswer, StreamFault, Verdict, Why};
 use trace_clock::{TickClock, TickSeat};
 use trace_platform::MemorySink;
 use trace_stack::{Answer, Gate, NotRun, ReadTrace, ThreadsFault, ThreadsRun, Worker, run_threads};
-use worked_fixtures::{CLOCKED, bytes_of, configuration, shown_streams, small};
+use worked_fixtures::{bytes_of, shown_streams, small};
 
 /// Two event records in one packet of 64 bytes, and one more for which the clock has no reading left.
 pub const TWO_RECORDS: Task = Task {
@@ -80,7 +80,7 @@ pub fn run_two<R: Threads + Wait, G: Gate + Sync>(
     second: &Task,
     gate: &G,
 ) -> Result<Ran, Fail> {
-    let config = configuration(alloc, CLOCKED)?;
+    let config = clocked(alloc)?;
     run_two_by(rt, alloc, &config, second, gate)
 }
 

@@ -7,6 +7,7 @@ ghost use Rattle.trace_stack.specs.Workers.{IsWorker, OfOneClock};
 
 use super::super::OUT_OF_MEMORY;
 use super::super::memory::two_workers::is_as_ever;
+use crate::tests::clocked_streams::clocked;
 use crate::tests::threads::{TWO_RECORDS, are_handed_back, two_workers};
 use ctf_types::Config;
 use std::alloc::Global;
@@ -17,7 +18,6 @@ use std::thread::Threads;
 use thread_stream::StreamFault;
 use trace_platform::MemorySink;
 use trace_stack::{OpenGate, ThreadsRun, Worker, run_threads};
-use worked_fixtures::{CLOCKED, configuration};
 
 /// What is left of workers of which none is refused.
 #[tactic(auto, using(trace_stack::proofs::Anew::all_begin_anew))]
@@ -40,7 +40,7 @@ fn run_again<R: Threads + Wait>(
 
 /// What is left of two workers.
 fn run<R: Threads + Wait + Abort>(rt: &R, alloc: Global) -> Result<ThreadsRun<MemorySink>, Fail> {
-    let config = configuration(alloc, CLOCKED)?;
+    let config = clocked(alloc)?;
     run_by(rt, alloc, &config)
 }
 
