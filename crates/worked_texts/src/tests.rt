@@ -1,19 +1,12 @@
-//! A module a crate.
+//! A module a subject.
 
 mod again;
 mod command_line;
-mod conf_faults;
 mod configurations;
-mod configured;
-mod copies;
-mod described;
-mod expected;
-mod inheritance;
-mod json_tree;
-mod judging;
-mod limits;
+mod denoted;
+mod faults;
 mod metadata;
-mod metadata_texts;
-mod reserved_words;
+mod rows;
 mod tables;
 mod tokens;
+mod words;

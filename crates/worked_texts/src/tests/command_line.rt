@@ -1,17 +1,16 @@
 //! The parts of commands, defaults filled in.
 
-use crate::tests::expected::same;
+use crate::tests::rows::same;
 use command_words::command;
-use std::alloc::Global;
 use std::test::Fail;
 
 /// Words, and the command that they ask for.
 static ROWS: &[(&[&str], &str)] = &[
-    (&[], "FirstPath"),
-    (&["check", "a b"], "Check(\"a b\")"),
+    (&[], "Ok(FirstPath)"),
+    (&["check", "a b"], "Ok(Check(\"a b\"))"),
     (
         &["metadata", "c"],
-        "Metadata(MetadataCommand { config: \"c\", uuid: None })",
+        "Ok(Metadata(MetadataCommand { config: \"c\", uuid: None }))",
     ),
     (
         &[
@@ -19,11 +18,11 @@ static ROWS: &[(&[&str], &str)] = &[
             "--uuid=79e49040-21b5-42d4-a83b-646f78666b62",
             "c",
         ],
-        "Metadata(MetadataCommand { config: \"c\", uuid: Some(79e49040-21b5-42d4-a83b-646f78666b62) })",
+        "Ok(Metadata(MetadataCommand { config: \"c\", uuid: Some(79e49040-21b5-42d4-a83b-646f78666b62) }))",
     ),
     (
         &["trace", "c", "s", "d"],
-        "Trace(TraceCommand { config: \"c\", script: \"s\", folder: \"d\", packet_bytes: 4096, buffers: 4, uuid: None, is_quiet: false, workers: None, resume: Anew })",
+        "Ok(Trace(TraceCommand { config: \"c\", script: \"s\", folder: \"d\", packet_bytes: 4096, buffers: 4, uuid: None, is_quiet: false, workers: None, resume: Anew }))",
     ),
     (
         &[
@@ -36,19 +35,19 @@ static ROWS: &[(&[&str], &str)] = &[
             "+1024",
             "d",
         ],
-        "Trace(TraceCommand { config: \"c\", script: \"s\", folder: \"d\", packet_bytes: 16, buffers: 1024, uuid: None, is_quiet: true, workers: None, resume: Anew })",
+        "Ok(Trace(TraceCommand { config: \"c\", script: \"s\", folder: \"d\", packet_bytes: 16, buffers: 1024, uuid: None, is_quiet: true, workers: None, resume: Anew }))",
     ),
     (
         &["trace", "c", "s", "d", "--packet", "1", "--buffers=1"],
-        "Trace(TraceCommand { config: \"c\", script: \"s\", folder: \"d\", packet_bytes: 1, buffers: 1, uuid: None, is_quiet: false, workers: None, resume: Anew })",
+        "Ok(Trace(TraceCommand { config: \"c\", script: \"s\", folder: \"d\", packet_bytes: 1, buffers: 1, uuid: None, is_quiet: false, workers: None, resume: Anew }))",
     ),
     (
         &["trace", "c", "s", "d", "--packet=1048576"],
-        "Trace(TraceCommand { config: \"c\", script: \"s\", folder: \"d\", packet_bytes: 1048576, buffers: 4, uuid: None, is_quiet: false, workers: None, resume: Anew })",
+        "Ok(Trace(TraceCommand { config: \"c\", script: \"s\", folder: \"d\", packet_bytes: 1048576, buffers: 4, uuid: None, is_quiet: false, workers: None, resume: Anew }))",
     ),
     (
         &["trace", "c", "s", "d", "--workers"],
-        "Trace(TraceCommand { config: \"c\", script: \"s\", folder: \"d\", packet_bytes: 4096, buffers: 4, uuid: None, is_quiet: false, workers: Some(Quota { readings: 1000000 }), resume: Anew })",
+        "Ok(Trace(TraceCommand { config: \"c\", script: \"s\", folder: \"d\", packet_bytes: 4096, buffers: 4, uuid: None, is_quiet: false, workers: Some(Quota { readings: 1000000 }), resume: Anew }))",
     ),
     (
         &[
@@ -59,39 +58,31 @@ static ROWS: &[(&[&str], &str)] = &[
             "--workers",
             "d",
         ],
-        "Trace(TraceCommand { config: \"c\", script: \"s\", folder: \"d\", packet_bytes: 4096, buffers: 4, uuid: None, is_quiet: false, workers: Some(Quota { readings: 288230376151711743 }), resume: Anew })",
+        "Ok(Trace(TraceCommand { config: \"c\", script: \"s\", folder: \"d\", packet_bytes: 4096, buffers: 4, uuid: None, is_quiet: false, workers: Some(Quota { readings: 288230376151711743 }), resume: Anew }))",
     ),
     (
         &["trace", "c", "s", "d", "--quota", "0", "--workers"],
-        "Trace(TraceCommand { config: \"c\", script: \"s\", folder: \"d\", packet_bytes: 4096, buffers: 4, uuid: None, is_quiet: false, workers: Some(Quota { readings: 0 }), resume: Anew })",
+        "Ok(Trace(TraceCommand { config: \"c\", script: \"s\", folder: \"d\", packet_bytes: 4096, buffers: 4, uuid: None, is_quiet: false, workers: Some(Quota { readings: 0 }), resume: Anew }))",
     ),
     (
         &["trace", "--resume", "c", "s", "d"],
-        "Trace(TraceCommand { config: \"c\", script: \"s\", folder: \"d\", packet_bytes: 4096, buffers: 4, uuid: None, is_quiet: false, workers: None, resume: Behind })",
+        "Ok(Trace(TraceCommand { config: \"c\", script: \"s\", folder: \"d\", packet_bytes: 4096, buffers: 4, uuid: None, is_quiet: false, workers: None, resume: Behind }))",
     ),
     (
         &["trace", "c", "s", "d", "--workers", "--resume", "--quota=1"],
-        "Trace(TraceCommand { config: \"c\", script: \"s\", folder: \"d\", packet_bytes: 4096, buffers: 4, uuid: None, is_quiet: false, workers: Some(Quota { readings: 1 }), resume: Behind })",
+        "Ok(Trace(TraceCommand { config: \"c\", script: \"s\", folder: \"d\", packet_bytes: 4096, buffers: 4, uuid: None, is_quiet: false, workers: Some(Quota { readings: 1 }), resume: Behind }))",
     ),
     (
         &["read", "d", "--quiet"],
-        "Read(ReadCommand { folder: \"d\", is_quiet: true })",
+        "Ok(Read(ReadCommand { folder: \"d\", is_quiet: true }))",
     ),
 ];
 
 #[test]
 fn asks_for_commands(rt: HostRuntime) -> Result<(), Fail> {
     for (words, asked) in ROWS {
-        let found = asked_for(rt.alloc(), words)?;
+        let found = format!(in rt.alloc(); "{:?}", command(rt.alloc(), words))?;
         same(&rt, found.as_str(), *asked, *words);
     }
     Ok(())
-}
-
-/// The command that the words ask for.
-fn asked_for(alloc: Global, words: &[&str]) -> Result<String, Fail> {
-    let Ok(found) = command(alloc, words) else {
-        return Err(Fail::new("no command"));
-    };
-    Ok(format!(in alloc; "{found:?}")?)
 }

@@ -1,290 +1,149 @@
-//! Small configurations are accepted, or refused with the first fault and its place.
+//! Small configurations are accepted, or refused with the first fault and its place; aliases and heirs are resolved, and values looked up.
 
-use crate::tests::judging::{are_judged, judges, judges_in_place};
+use crate::tests::rows::{Asked, Look, Table, all_are_said};
 use crate::tests::tables::{
-    Slot, aliases, arrays, clock_types, clocked_streams, data_stream_features, data_stream_types,
-    enumerations, environment, events, inheritance, integers, structures, trace_features,
-    trace_types, whole_texts,
+    aliases, arrays, clock_types, clocked_streams, data_stream_features, data_stream_types,
+    enumerations, environment, events, heirs, identified, inheritance, integers, limits, places,
+    reserved_words, structures, trace_features, trace_types, trees, whole_texts,
 };
-use std::alloc::Global;
-use std::process::Abort;
 use std::test::Fail;
-use worked_fixtures::{CLOCKED, Changes, SMALL, changed};
 
-/// A place, and the rows of texts in it.
-type Place = (Slot, &'static str);
+/// No identifier is handed in.
+const PLAIN: Asked = Asked::Configuration(None);
 
-static FIELD_TYPES: &[Place] = &[
-    (Slot::Field, integers::FIELDS),
-    (Slot::Field, enumerations::FIELDS),
-    (Slot::Field, arrays::FIELDS),
-    (Slot::Payload, arrays::PAYLOADS),
-    (Slot::Payload, structures::PAYLOADS),
-    (Slot::Field, inheritance::FIELDS),
-    (Slot::Payload, inheritance::PAYLOADS),
+const IDENTIFIED: Asked = Asked::Configuration(Some(0x79e4_9040_21b5_42d4_a83b_646f_7866_6b62));
+
+static CONFIGURATIONS: &[Table] = &[
+    (PLAIN, places::FIELD, integers::FIELDS),
+    (PLAIN, places::FIELD, enumerations::FIELDS),
+    (PLAIN, places::FIELD, arrays::FIELDS),
+    (PLAIN, places::PAYLOAD, arrays::PAYLOADS),
+    (PLAIN, places::PAYLOAD, structures::PAYLOADS),
+    (PLAIN, places::FIELD, inheritance::FIELDS),
+    (PLAIN, places::PAYLOAD, inheritance::PAYLOADS),
+    (PLAIN, places::EVENT, events::EVENTS),
+    (PLAIN, places::STREAM, data_stream_types::STREAMS),
+    (PLAIN, places::PACKET, data_stream_features::PACKETS),
+    (PLAIN, places::RECORD, data_stream_features::RECORDS),
+    (
+        PLAIN,
+        places::CLOCKED_STREAM,
+        clocked_streams::CLOCKED_STREAMS,
+    ),
+    (PLAIN, places::TYPE, trace_types::TRACE_TYPES),
+    (PLAIN, places::FEATURES, trace_features::FEATURES),
+    (PLAIN, places::TYPE, trace_features::TRACE_TYPES),
+    (PLAIN, places::TYPE, inheritance::TRACE_TYPES),
+    (PLAIN, places::CLOCK, clock_types::CLOCKS),
+    (PLAIN, places::LOG_LEVELS, aliases::LOG_LEVELS),
+    (PLAIN, places::ALIASES, aliases::FIELD_TYPES),
+    (PLAIN, places::ROOT, whole_texts::ROOTS),
+    (IDENTIFIED, places::ROOT, identified::IDENTIFIED),
+    (PLAIN, places::ENVIRONMENT, environment::ENVIRONMENTS),
 ];
 
 #[test]
-fn judges_field_types(rt: HostRuntime) -> Result<(), Fail> {
-    all_are_judged(&rt, rt.alloc(), FIELD_TYPES)
+fn judges_configurations(rt: HostRuntime) -> Result<(), Fail> {
+    all_are_said(&rt, rt.alloc(), CONFIGURATIONS)?;
+    all_are_said(&rt, rt.alloc(), RESERVED_WORDS)
 }
 
-static STREAM_TYPES: &[Place] = &[
-    (Slot::Event, events::EVENTS),
-    (Slot::Stream, data_stream_types::STREAMS),
-    (Slot::Packet, data_stream_features::PACKETS),
-    (Slot::Record, data_stream_features::RECORDS),
-    (Slot::ClockedStream, clocked_streams::CLOCKED_STREAMS),
+static RESERVED_WORDS: &[Table] = &[
+    (PLAIN, places::PAYLOAD, reserved_words::PAYLOADS),
+    (PLAIN, places::STREAM, reserved_words::STREAMS),
+    (PLAIN, places::TYPE, reserved_words::TRACE_TYPES),
+    (PLAIN, places::ENVIRONMENT, reserved_words::ENVIRONMENTS),
+    (PLAIN, places::ALIASES, reserved_words::FIELD_TYPES),
+    (PLAIN, places::LOG_LEVELS, reserved_words::LOG_LEVELS),
+    (PLAIN, places::FIELD, reserved_words::FIELDS),
+];
+
+static LIMITS: &[Table] = &[
+    (PLAIN, places::ENVIRONMENT, limits::ENVIRONMENTS),
+    (PLAIN, places::TYPE, limits::TRACE_TYPES),
+    (PLAIN, places::LOG_LEVELS, limits::LOG_LEVELS),
+    (PLAIN, places::ALIASES, limits::FIELD_TYPES),
+    (PLAIN, places::STREAM, limits::STREAMS),
+    (PLAIN, places::PAYLOAD, limits::PAYLOADS),
+    (PLAIN, places::EVENT, limits::EVENTS),
+    (PLAIN, places::FIELD, limits::FIELDS),
+    (PLAIN, places::ROOT, limits::ROOTS),
+    (PLAIN, places::CLOCK, limits::CLOCKS),
 ];
 
 #[test]
-fn judges_data_stream_types(rt: HostRuntime) -> Result<(), Fail> {
-    all_are_judged(&rt, rt.alloc(), STREAM_TYPES)
+fn refuses_what_passes_a_limit(rt: HostRuntime) -> Result<(), Fail> {
+    all_are_said(&rt, rt.alloc(), LIMITS)
 }
 
-static TRACE_TYPES: &[Place] = &[
-    (Slot::Type, trace_types::TRACE_TYPES),
-    (Slot::Features, trace_features::FEATURES),
-    (Slot::Type, trace_features::TRACE_TYPES),
-    (Slot::Type, inheritance::TRACE_TYPES),
+/// Nothing of what was resolved is shown.
+const RESOLVED: Asked = Asked::Resolved("/nothing");
+
+const PAYLOAD: Asked = Asked::Resolved(
+    "/trace/type/data-stream-types/s/event-record-types/e/payload-field-type",
+);
+
+static HEIRS: &[Table] = &[
+    (PAYLOAD, places::ALIASES_AND_PAYLOAD, heirs::HEIRS),
+    (RESOLVED, places::ALIASES_AND_PAYLOAD, heirs::FIRST_PLACES),
+    (RESOLVED, places::ALIASES_AND_PAYLOAD, heirs::CIRCLES),
+    (RESOLVED, places::ALIASES_AND_PAYLOAD, heirs::INHERITED),
+    (
+        RESOLVED,
+        places::ALIASES_AND_PAYLOAD,
+        heirs::INHERITED_BY_ALIASES,
+    ),
+    (RESOLVED, places::ALIASES_AND_EXTRAS, heirs::EXTRAS),
+    (RESOLVED, places::ROOT, trees::TREES),
+    (Asked::Value(Look::Digit), places::ROOT, trees::DIGITS),
+    (
+        Asked::Value(Look::NumberOrNone),
+        places::ROOT,
+        trees::NUMBERS,
+    ),
+    (Asked::Value(Look::FirstFlag), places::ROOT, trees::FLAGS),
+    (Asked::Value(Look::TextLen), places::ROOT, trees::TEXTS),
 ];
 
 #[test]
-fn judges_trace_types(rt: HostRuntime) -> Result<(), Fail> {
-    all_are_judged(&rt, rt.alloc(), TRACE_TYPES)
+fn resolves_heirs_and_reads_trees(rt: HostRuntime) -> Result<(), Fail> {
+    all_are_said(&rt, rt.alloc(), HEIRS)
 }
 
-static OTHERS: &[Place] = &[
-    (Slot::Clock, clock_types::CLOCKS),
-    (Slot::LogLevels, aliases::LOG_LEVELS),
-    (Slot::Aliases, aliases::FIELD_TYPES),
-    (Slot::Root, whole_texts::ROOTS),
-    (Slot::Environment, environment::ENVIRONMENTS),
+static LEFT: &[Table] = &[
+    (RESOLVED, places::ALIASES_AND_PAYLOAD, heirs::LEFT),
+    (RESOLVED, places::ALIASES_AND_PAYLOAD, heirs::FULL),
+    (RESOLVED, places::IN_TYPE, heirs::MANY_MEMBERS),
 ];
 
 #[test]
-fn judges_clock_types_aliases_environments_and_whole_texts(rt: HostRuntime) -> Result<(), Fail> {
-    all_are_judged(&rt, rt.alloc(), OTHERS)
+fn counts_what_is_left_of_a_type(rt: HostRuntime) -> Result<(), Fail> {
+    all_are_said(&rt, rt.alloc(), LEFT)
 }
 
-fn all_are_judged(rt: &impl Abort, alloc: Global, places: &[Place]) -> Result<(), Fail> {
-    for (slot, rows) in places {
-        are_judged(rt, alloc, *slot, rows)?;
-    }
-    Ok(())
+static HEAVY_HEIRS: &[Table] = &[(RESOLVED, places::ALIASES_AND_PAYLOAD, heirs::HEAVY_HEIRS)];
+
+#[test]
+fn ends_soon_on_heavy_heirs(rt: HostRuntime) -> Result<(), Fail> {
+    all_are_said(&rt, rt.alloc(), HEAVY_HEIRS)
 }
 
-/// Fields whose labels have control characters, and the kind and the path of their fault.
-static CONTROLS: &[(&str, &str, &str)] = &[
-    (
-        r#"{"class":"uenum","size":8,"mappings":{"A\u0001":[1]}}"#,
-        "OutOfRange",
-        "mappings/A\u{1}",
-    ),
-    (
-        r#"{"class":"uenum","size":8,"mappings":{"A\u001f":[1]}}"#,
-        "OutOfRange",
-        "mappings/A\u{1f}",
-    ),
+static MANY_ALIASES: &[Table] = &[
+    (RESOLVED, places::ALIASES_AND_PAYLOAD, heirs::HEAVY_ALIASES),
+    (RESOLVED, places::ALIASES_AND_PAYLOAD, heirs::MANY_ALIASES),
 ];
 
 #[test]
-fn refuses_labels_with_control_characters(rt: HostRuntime) -> Result<(), Fail> {
-    for (text, kind, path) in CONTROLS {
-        judges_in_place(&rt, rt.alloc(), Slot::Field, text, kind, path)?;
-    }
-    Ok(())
+fn ends_soon_on_many_aliases(rt: HostRuntime) -> Result<(), Fail> {
+    all_are_said(&rt, rt.alloc(), MANY_ALIASES)
 }
 
-const IDENTIFIER: u128 = 0x79e4_9040_21b5_42d4_a83b_646f_7866_6b62;
-
-/// Whole texts, judged with an identifier that is handed in.
-static WITH_IDENTIFIER: &[(&str, &str, &str)] = &[
-    (
-        r#"{"trace":{"type":{"trace-byte-order":"le","uuid":"auto"}}}"#,
-        "",
-        "",
-    ),
-    (
-        r#"{"trace":{"type":{"trace-byte-order":"le","uuid":"auto","$features":{"uuid-field-type":true}}}}"#,
-        "",
-        "",
-    ),
-    (
-        r#"{"trace":{"type":{"trace-byte-order":"le","uuid":"auto","$features":{"uuid-field-type":false}}}}"#,
-        "",
-        "",
-    ),
-    (
-        r#"{"trace":{"type":{"trace-byte-order":"le","uuid":"00000000-0000-0000-0000-000000000001"}}}"#,
-        "",
-        "",
-    ),
-    (
-        r#"{"trace":{"type":{"trace-byte-order":"le","uuid":"x"}}}"#,
-        "OutOfRange",
-        "trace/type/uuid",
-    ),
-    (
-        r#"{"trace":{"type":{"trace-byte-order":"le","$features":{"uuid-field-type":true}}}}"#,
-        "NoUuid",
-        "trace/type/$features/uuid-field-type",
-    ),
-    (
-        r#"{"trace":{"type":{"trace-byte-order":"le","uuid":null,"$features":{"uuid-field-type":true}}}}"#,
-        "NoUuid",
-        "trace/type/$features/uuid-field-type",
-    ),
-    (
-        r#"{"trace":{"type":{"trace-byte-order":"le","clock-types":{"clk":{"uuid":"auto"}}}}}"#,
-        "OutOfRange",
-        "trace/type/clock-types/clk/uuid",
-    ),
+static LONG_CHAINS: &[Table] = &[
+    (RESOLVED, places::ALIASES_AND_PAYLOAD, heirs::LONG_CHAINS),
+    (RESOLVED, places::ALIASES_AND_PAYLOAD, heirs::GROWING),
 ];
 
 #[test]
-fn judges_with_an_identifier(rt: HostRuntime) -> Result<(), Fail> {
-    for (text, kind, path) in WITH_IDENTIFIER {
-        judges(&rt, rt.alloc(), text, Some(IDENTIFIER), kind, path)?;
-    }
-    Ok(())
-}
-
-/// `SMALL` or `CLOCKED`, what is changed in it, and the kind and the path of the fault.
-static CHANGED: &[(&str, Changes, &str, &str)] = &[
-    (SMALL, &[], "", ""),
-    (CLOCKED, &[], "", ""),
-    (
-        CLOCKED,
-        &[
-            (
-                r#""type-id-field-type":"u8""#,
-                r#""type-id-field-type":{"class":"uint","size":1,"alignment":1}"#,
-            ),
-            (
-                r#""event-record-types":{"#,
-                r#""event-record-types":{"c":{"payload-field-type":{"class":"struct","members":[{"n":{"field-type":{"class":"sint","size":16}}}]}},"#,
-            ),
-        ],
-        "FieldTooSmall",
-        "trace/type/data-stream-types/s/$features/event-record/type-id-field-type",
-    ),
-    (
-        CLOCKED,
-        &[(r#""clock-types":{"clk":{}},"#, "")],
-        "NoClock",
-        "trace/type/data-stream-types/s/$default-clock-type-name",
-    ),
-    (
-        CLOCKED,
-        &[(
-            r#""event-record":{"#,
-            r#""event-record":{"timestamp-field-type":"u8","#,
-        )],
-        "",
-        "",
-    ),
-    (
-        CLOCKED,
-        &[
-            (
-                r#""event-record":{"#,
-                r#""event-record":{"timestamp-field-type":"u8","#,
-            ),
-            (
-                r#""packet":{"#,
-                r#""packet":{"beginning-timestamp-field-type":false,"#,
-            ),
-        ],
-        "TimestampSize",
-        "trace/type/data-stream-types/s/$features/event-record/timestamp-field-type",
-    ),
-    (
-        CLOCKED,
-        &[(
-            r#""event-record":{"#,
-            r#""event-record":{"timestamp-field-type":{"class":"uint","size":7},"#,
-        )],
-        "TimestampSize",
-        "trace/type/data-stream-types/s/$features/event-record/timestamp-field-type",
-    ),
-    (
-        SMALL,
-        &[(
-            "PAYLOAD",
-            r#"[{"x":{"field-type":{"class":"dynamic-array","element-field-type":{"class":"uint","size":8}}}},{"__x_len":{"field-type":{"class":"uint","size":8}}}]"#,
-        )],
-        "NameClash",
-        "trace/type/data-stream-types/s/event-record-types/e/payload-field-type/members/1/__x_len",
-    ),
-    (
-        SMALL,
-        &[(
-            "EXTRAS",
-            r#"[{"events_discarded":{"field-type":{"class":"uint","size":8}}}]"#,
-        )],
-        "NameClash",
-        "trace/type/data-stream-types/s/packet-context-field-type-extra-members/0/events_discarded",
-    ),
-    (
-        SMALL,
-        &[(
-            "PAYLOAD",
-            r#"[{"event":{"field-type":{"class":"uint","size":8}}}]"#,
-        )],
-        "ReservedName",
-        "trace/type/data-stream-types/s/event-record-types/e/payload-field-type/members/0/event",
-    ),
-    (
-        SMALL,
-        &[(
-            "PAYLOAD",
-            r#"[{"9a":{"field-type":{"class":"uint","size":8}}}]"#,
-        )],
-        "BadName",
-        "trace/type/data-stream-types/s/event-record-types/e/payload-field-type/members/0/9a",
-    ),
-    (
-        SMALL,
-        &[(
-            "PAYLOAD",
-            r#"[{"z":{"field-type":{"class":"static-array","length":0,"element-field-type":{"class":"uint","size":8}}}}]"#,
-        )],
-        "ZeroSizeRecord",
-        "trace/type/data-stream-types/s/event-record-types/e",
-    ),
-    (
-        SMALL,
-        &[(
-            r#""data-stream-type-id-field-type":STREAM_ID"#,
-            r#""data-stream-type-id-field-type":false,"uuid-field-type":true"#,
-        )],
-        "NoUuid",
-        "trace/type/$features/uuid-field-type",
-    ),
-    (
-        SMALL,
-        &[(
-            r#""trace-byte-order":"le""#,
-            r#""trace-byte-order":"le","native-byte-order":"le""#,
-        )],
-        "TwoOrders",
-        "trace/type",
-    ),
-    (
-        SMALL,
-        &[("ALIASES", r#"{"P":{"$inherit":"Q"},"Q":{"$inherit":"P"}}"#)],
-        "InheritCycle",
-        "trace/type/$field-type-aliases/P",
-    ),
-];
-
-#[test]
-fn judges_changed_configurations(rt: HostRuntime) -> Result<(), Fail> {
-    let alloc = rt.alloc();
-    for (text, changes, kind, path) in CHANGED {
-        let text = changed(alloc, text, *changes)?;
-        judges(&rt, alloc, text.as_str(), None, kind, path)?;
-    }
-    Ok(())
+fn ends_soon_on_long_chains(rt: HostRuntime) -> Result<(), Fail> {
+    all_are_said(&rt, rt.alloc(), LONG_CHAINS)
 }

@@ -4,98 +4,98 @@
 /// A construct that is not read where the caret stands, and its name behind an arrow.
 pub const UNSUPPORTED: &str = r#"
 # blocks
- trace{^floating_point} -> floating_point
- ^typealias integer{size=8;}:=u8; -> typealias
- ^typedef -> typedef
- ^struct s{}; -> struct
- ^callsite{}; -> callsite
- ^variant{}; -> variant
- ^integer{}; -> integer
- ^traces{}; -> traces
- env{};^environment{}; -> environment
+ trace{^floating_point} -> Unsupported("floating_point")
+ ^typealias integer{size=8;}:=u8; -> Unsupported("typealias")
+ ^typedef -> Unsupported("typedef")
+ ^struct s{}; -> Unsupported("struct")
+ ^callsite{}; -> Unsupported("callsite")
+ ^variant{}; -> Unsupported("variant")
+ ^integer{}; -> Unsupported("integer")
+ ^traces{}; -> Unsupported("traces")
+ env{};^environment{}; -> Unsupported("environment")
 # the keywords that are not read, wherever a word stands
- ^_Bool -> _Bool
- trace{^_Complex=1; -> _Complex
- trace{a.^_Imaginary=1; -> _Imaginary
- trace{a=^void; -> void
- trace{a=b.^int; -> int
- trace{a=1 ^long; -> long
- trace{a=-^short; -> short
- trace{byte_order=^float; -> float
- trace{major=1;minor=8;byte_order=le;}^const; -> const
- event{name=^char; -> char
- clock{name=c;description=^double; -> double
- env{^unsigned=1; -> unsigned
- env{a=^unsigned; -> unsigned
- event{fields:=^variant{ -> variant
- event{fields:=struct{^floating_point{ -> floating_point
- event{fields:=struct{^unsigned int x; -> unsigned
- event{fields:=struct{^const integer{size=8;}x; -> const
- event{fields:=struct{enum:^unsigned -> unsigned
- event{fields:=struct{enum:integer{size=8;}{^double=1 -> double
- event{fields:=struct{string ^long; -> long
- event{fields:=struct{string x[^int]; -> int
- event{fields:=struct{integer{^typedef=1; -> typedef
+ ^_Bool -> Unsupported("_Bool")
+ trace{^_Complex=1; -> Unsupported("_Complex")
+ trace{a.^_Imaginary=1; -> Unsupported("_Imaginary")
+ trace{a=^void; -> Unsupported("void")
+ trace{a=b.^int; -> Unsupported("int")
+ trace{a=1 ^long; -> Unsupported("long")
+ trace{a=-^short; -> Unsupported("short")
+ trace{byte_order=^float; -> Unsupported("float")
+ trace{major=1;minor=8;byte_order=le;}^const; -> Unsupported("const")
+ event{name=^char; -> Unsupported("char")
+ clock{name=c;description=^double; -> Unsupported("double")
+ env{^unsigned=1; -> Unsupported("unsigned")
+ env{a=^unsigned; -> Unsupported("unsigned")
+ event{fields:=^variant{ -> Unsupported("variant")
+ event{fields:=struct{^floating_point{ -> Unsupported("floating_point")
+ event{fields:=struct{^unsigned int x; -> Unsupported("unsigned")
+ event{fields:=struct{^const integer{size=8;}x; -> Unsupported("const")
+ event{fields:=struct{enum:^unsigned -> Unsupported("unsigned")
+ event{fields:=struct{enum:integer{size=8;}{^double=1 -> Unsupported("double")
+ event{fields:=struct{string ^long; -> Unsupported("long")
+ event{fields:=struct{string x[^int]; -> Unsupported("int")
+ event{fields:=struct{integer{^typedef=1; -> Unsupported("typedef")
 # the trace's version and byte order
- trace{major=^2; -> major
- trace{major=^0; -> major
- trace{major=1;minor=^9; -> minor
- trace{byte_order=^network; -> network
- trace{byte_order=^native; -> native
- trace{byte_order=^LE; -> LE
+ trace{major=^2; -> Unsupported("major")
+ trace{major=^0; -> Unsupported("major")
+ trace{major=1;minor=^9; -> Unsupported("minor")
+ trace{byte_order=^network; -> Unsupported("network")
+ trace{byte_order=^native; -> Unsupported("native")
+ trace{byte_order=^LE; -> Unsupported("LE")
 # scopes of another block
- trace{^packet.context:=struct{ -> packet.context
- trace{^fields:=struct{ -> fields
- stream{^packet.header:=struct{ -> packet.header
- stream{^event.fields:=struct{ -> event.fields
- stream{^packet:=struct{ -> packet
- event{^event.context:=struct{ -> event.context
- event{^fields.x:=struct{ -> fields.x
- clock{^fields:=struct{ -> fields
+ trace{^packet.context:=struct{ -> Unsupported("packet.context")
+ trace{^fields:=struct{ -> Unsupported("fields")
+ stream{^packet.header:=struct{ -> Unsupported("packet.header")
+ stream{^event.fields:=struct{ -> Unsupported("event.fields")
+ stream{^packet:=struct{ -> Unsupported("packet")
+ event{^event.context:=struct{ -> Unsupported("event.context")
+ event{^fields.x:=struct{ -> Unsupported("fields.x")
+ clock{^fields:=struct{ -> Unsupported("fields")
 # structures in structures, attributes that integers and strings have not
- event{fields:=struct{^struct{}x; -> struct
- event{fields:=struct{^struct s x; -> struct
- event{fields:=struct{integer{^length=8; -> length
- event{fields:=struct{integer{size=8;^content.type=8; -> content.type
- event{fields:=struct{string{^size=8; -> size
- event{fields:=struct{string{encoding=utf8;^align=8; -> align
+ event{fields:=struct{^struct{}x; -> Unsupported("struct")
+ event{fields:=struct{^struct s x; -> Unsupported("struct")
+ event{fields:=struct{integer{^length=8; -> Unsupported("length")
+ event{fields:=struct{integer{size=8;^content.type=8; -> Unsupported("content.type")
+ event{fields:=struct{string{^size=8; -> Unsupported("size")
+ event{fields:=struct{string{encoding=utf8;^align=8; -> Unsupported("align")
 # words for bases, byte orders and encodings
- event{fields:=struct{integer{base=^hexa; -> hexa
- event{fields:=struct{integer{base=^dec.x; -> dec.x
- event{fields:=struct{integer{byte_order=^le; -> le
- event{fields:=struct{string{encoding=^UTF16; -> UTF16
- trace{byte_order=le;packet.header:=struct{integer{byte_order=^be; -> be
- trace{byte_order=le;packet.header:=struct{integer{byte_order=^network; -> network
- trace{byte_order=be;packet.header:=struct{integer{byte_order=^le; -> le
- event{fields:=struct{integer{byte_order=^le;};};};trace{byte_order=be;}; -> le
- event{fields:=struct{integer{byte_order=^le;};};};trace{byte_order="le";}; -> le
+ event{fields:=struct{integer{base=^hexa; -> Unsupported("hexa")
+ event{fields:=struct{integer{base=^dec.x; -> Unsupported("dec.x")
+ event{fields:=struct{integer{byte_order=^le; -> Unsupported("le")
+ event{fields:=struct{string{encoding=^UTF16; -> Unsupported("UTF16")
+ trace{byte_order=le;packet.header:=struct{integer{byte_order=^be; -> Unsupported("be")
+ trace{byte_order=le;packet.header:=struct{integer{byte_order=^network; -> Unsupported("network")
+ trace{byte_order=be;packet.header:=struct{integer{byte_order=^le; -> Unsupported("le")
+ event{fields:=struct{integer{byte_order=^le;};};};trace{byte_order=be;}; -> Unsupported("le")
+ event{fields:=struct{integer{byte_order=^le;};};};trace{byte_order="le";}; -> Unsupported("le")
 # members in any bracket but the first
- event{fields:=struct{string x[2][^n]; -> n
- event{fields:=struct{integer{size=8;}n;string x[n][^n]; -> n
+ event{fields:=struct{string x[2][^n]; -> Unsupported("n")
+ event{fields:=struct{integer{size=8;}n;string x[n][^n]; -> Unsupported("n")
 # members whose names have a meaning
- trace{packet.header:=struct{integer{size=16;}^magic; -> magic
- trace{packet.header:=struct{integer{size=32;signed=1;}^magic; -> magic
- trace{packet.header:=struct{integer{size=32;}^magic[1]; -> magic
- trace{packet.header:=struct{enum:integer{size=32;}{}^magic; -> magic
- trace{packet.header:=struct{string ^magic; -> magic
- trace{packet.header:=struct{integer{size=8;}^uuid; -> uuid
- trace{packet.header:=struct{integer{size=8;}^uuid[15]; -> uuid
- trace{packet.header:=struct{integer{size=8;}^uuid[16][1]; -> uuid
- trace{packet.header:=struct{integer{size=8;}n;integer{size=8;}^uuid[n]; -> uuid
- trace{packet.header:=struct{integer{size=8;signed=1;}^uuid[16]; -> uuid
- trace{packet.header:=struct{integer{size=8;align=4;}^uuid[16]; -> uuid
- trace{packet.header:=struct{integer{size=16;}^uuid[16]; -> uuid
- trace{packet.header:=struct{string ^uuid[16]; -> uuid
- trace{packet.header:=struct{integer{size=8;signed=1;}^stream_id; -> stream_id
- trace{packet.header:=struct{string ^stream_id; -> stream_id
- stream{event.header:=struct{enum:integer{size=8;}{}^id; -> id
- stream{event.header:=struct{integer{size=8;}^id[1]; -> id
- stream{packet.context:=struct{string ^packet_size; -> packet_size
- stream{packet.context:=struct{integer{size=8;signed=1;}^content_size; -> content_size
- stream{packet.context:=struct{integer{size=8;}^timestamp_begin[1]; -> timestamp_begin
- stream{packet.context:=struct{enum:integer{size=8;}{}^timestamp_end; -> timestamp_end
- stream{packet.context:=struct{string ^events_discarded; -> events_discarded
- stream{packet.context:=struct{string ^packet_seq_num; -> packet_seq_num
+ trace{packet.header:=struct{integer{size=16;}^magic; -> Unsupported("magic")
+ trace{packet.header:=struct{integer{size=32;signed=1;}^magic; -> Unsupported("magic")
+ trace{packet.header:=struct{integer{size=32;}^magic[1]; -> Unsupported("magic")
+ trace{packet.header:=struct{enum:integer{size=32;}{}^magic; -> Unsupported("magic")
+ trace{packet.header:=struct{string ^magic; -> Unsupported("magic")
+ trace{packet.header:=struct{integer{size=8;}^uuid; -> Unsupported("uuid")
+ trace{packet.header:=struct{integer{size=8;}^uuid[15]; -> Unsupported("uuid")
+ trace{packet.header:=struct{integer{size=8;}^uuid[16][1]; -> Unsupported("uuid")
+ trace{packet.header:=struct{integer{size=8;}n;integer{size=8;}^uuid[n]; -> Unsupported("uuid")
+ trace{packet.header:=struct{integer{size=8;signed=1;}^uuid[16]; -> Unsupported("uuid")
+ trace{packet.header:=struct{integer{size=8;align=4;}^uuid[16]; -> Unsupported("uuid")
+ trace{packet.header:=struct{integer{size=16;}^uuid[16]; -> Unsupported("uuid")
+ trace{packet.header:=struct{string ^uuid[16]; -> Unsupported("uuid")
+ trace{packet.header:=struct{integer{size=8;signed=1;}^stream_id; -> Unsupported("stream_id")
+ trace{packet.header:=struct{string ^stream_id; -> Unsupported("stream_id")
+ stream{event.header:=struct{enum:integer{size=8;}{}^id; -> Unsupported("id")
+ stream{event.header:=struct{integer{size=8;}^id[1]; -> Unsupported("id")
+ stream{packet.context:=struct{string ^packet_size; -> Unsupported("packet_size")
+ stream{packet.context:=struct{integer{size=8;signed=1;}^content_size; -> Unsupported("content_size")
+ stream{packet.context:=struct{integer{size=8;}^timestamp_begin[1]; -> Unsupported("timestamp_begin")
+ stream{packet.context:=struct{enum:integer{size=8;}{}^timestamp_end; -> Unsupported("timestamp_end")
+ stream{packet.context:=struct{string ^events_discarded; -> Unsupported("events_discarded")
+ stream{packet.context:=struct{string ^packet_seq_num; -> Unsupported("packet_seq_num")
 "#;
 
 /// What stands where the caret stands for the second time.
@@ -160,10 +160,6 @@ pub const BAD_LENGTH: &str = r"
  trace{packet.header:=struct{string magic[^n];
 ";
 
-/// The same in a text of many lines.
-pub const BAD_LENGTH_IN_LINES: &str =
-    "\n\ntrace {\n\tmajor = 1;\n\tminor = 8;\n\tbyte_order = le;\n\tpacket.header := struct {\n\t\tinteger { size = 32; align = 8; signed = false; base = 16; } magic;\n\t} align(8);\n};\n\nstream {\n\tid = 0;\n\tpacket.context := struct {\n\t\tinteger { size = 32; align = 8; signed = false; base = 10; } packet_size;\n\t\tinteger { size = 32; align = 8; signed = false; base = 10; } content_size;\n\t} align(8);\n};\n\nevent {\n\tname = \"e\";\n\tid = 0;\n\tstream_id = 0;\n\tfields := struct {\n\t\tinteger { size = 8; align = 8; signed = false; base = 10; } v[^n];\n\t} align(1);\n};\n";
-
 /// More array lengths or elements than are read, a sequence of elements without bits, and a large alignment.
 pub const LIMIT: &str = r"
  event{fields:=struct{string x[1][1][1][1][1][1][1][1][^1];
@@ -183,147 +179,12 @@ pub const LIMIT: &str = r"
  event{fields:=struct{}align(^8192);
 ";
 
-/// A limit on names: what stands before them, before and behind each one, how many there are, what ends the text, and its first fault: one more is past the limit.
-pub static LIMITS: &[(&str, (&str, &str), usize, &str, &str)] = &[
-    (
-        " event{fields:=struct{",
-        ("string ", ";"),
-        1024,
-        "^",
-        "Syntax",
-    ),
-    (
-        " event{fields:=struct{",
-        ("string ", ";"),
-        1024,
-        "string ^x;",
-        "Limit",
-    ),
-    (" env{", ("", "=1;"), 256, "^", "Syntax"),
-    (" env{", ("", "=1;"), 256, "^x=1;", "Limit"),
-    (
-        " event{fields:=struct{enum:integer{size=8;}{",
-        ("", "=0,"),
-        65_536,
-        "^",
-        "Syntax",
-    ),
-    (
-        " event{fields:=struct{enum:integer{size=8;}{",
-        ("", "=0,"),
-        65_536,
-        "^x=0",
-        "Limit",
-    ),
-];
-
-/// Texts and what their faults are in words.
-pub static WORDS: &[(&str, &str)] = &[
-    (
-        "",
-        "byte 0, line 1, column 1: found the end of the text: expected the line `/* CTF 1.8 */`",
-    ),
-    (
-        "W\u{1d}",
-        "byte 0, line 1, column 1: found \"W\": expected the line `/* CTF 1.8 */`",
-    ),
-    (
-        "/* CTF 1.8 */\ntrace { major = 1 }",
-        "byte 32, line 2, column 19: found \"}\": the grammar of TSDL has no such token here: expected `;`",
-    ),
-    (
-        "/* CTF 1.8 */ event { fields := struct { } align(8192); };",
-        "byte 49, line 1, column 50: found \"8192\": this passes a limit: expected an alignment of at most 4096 bits",
-    ),
-    // what is converted, and what stays
-    (
-        "/* CTF 1.8 */\ntypealias integer { size = 8; } := uint8_t;",
-        "byte 14, line 2, column 1: found \"typealias\": `typealias` is not supported here (`babeltrace2 -o ctf` converts such a trace)",
-    ),
-    (
-        "/* CTF 1.8 */\nstruct s { };",
-        "byte 14, line 2, column 1: found \"struct\": `struct` is not supported here (`babeltrace2 -o ctf` converts such a trace)",
-    ),
-    (
-        "/* CTF 1.8 */\nevent { fields := struct { uint8_t x; }; };",
-        "byte 41, line 2, column 28: found \"uint8_t\": a type by its name is TSDL that is not read here (`babeltrace2 -o ctf` converts such a trace)",
-    ),
-    (
-        "/* CTF 1.8 */\nevent { fields := struct { enum : uint8_t { A = 1 } x; }; };",
-        "byte 48, line 2, column 35: found \"uint8_t\": a type by its name is TSDL that is not read here (`babeltrace2 -o ctf` converts such a trace)",
-    ),
-    (
-        "/* CTF 1.8 */\nevent { fields := struct s; };",
-        "byte 39, line 2, column 26: found \"s\": a type by its name is TSDL that is not read here (`babeltrace2 -o ctf` converts such a trace)",
-    ),
-    (
-        "/* CTF 1.8 */\nevent { fields := struct { unsigned int x; }; };",
-        "byte 41, line 2, column 28: found \"unsigned\": `unsigned` is not supported here (`babeltrace2 -o ctf` converts such a trace)",
-    ),
-    (
-        "/* CTF 1.8 */\nevent { fields := struct { enum : integer { size = 8; } { A, B } x; }; };",
-        "byte 73, line 2, column 60: found \",\": a label without a value is TSDL that is not read here (`babeltrace2 -o ctf` converts such a trace)",
-    ),
-    (
-        "/* CTF 1.8 */\ntrace { byte_order = le; packet.header := struct { integer { byte_order = be;",
-        "byte 88, line 2, column 75: found \"be\": `be` is not supported here (`babeltrace2 -o ctf` converts such a trace)",
-    ),
-    (
-        "/* CTF 1.8 */\nevent { fields := struct { struct { } x; }; };",
-        "byte 41, line 2, column 28: found \"struct\": `struct` is not supported here",
-    ),
-    (
-        "/* CTF 1.8 */\nevent { fields := struct { variant <tag> { } x; }; };",
-        "byte 49, line 2, column 36: found \"<\": `<` and `>` are TSDL that is not read here",
-    ),
-    (
-        "/* CTF 1.8 */\nevent { fields := struct { floating_point { } x; }; };",
-        "byte 41, line 2, column 28: found \"floating_point\": `floating_point` is not supported here",
-    ),
-    (
-        "/* CTF 1.8 */\ntrace { major = 2; };",
-        "byte 30, line 2, column 17: found \"2\": `major` is not supported here",
-    ),
-    // no token
-    (
-        "/* CTF 1.8 */\nenv { a = @; };",
-        "byte 24, line 2, column 11: found \"@\": no token of TSDL starts here",
-    ),
-    (
-        "/* CTF 1.8 */\nenv { a = \"b; };",
-        "byte 24, line 2, column 11: found \"\\\"\": this string has no closing quote in its line",
-    ),
-    (
-        "/* CTF 1.8 */\nenv { a = \"b\nc\"; };",
-        "byte 24, line 2, column 11: found \"\\\"\": this string has no closing quote in its line",
-    ),
-    (
-        "/* CTF 1.8 */\nenv { a = \"b\\q\"; };",
-        "byte 24, line 2, column 11: found \"\\\"\": this string has `\\q`, which is no escape",
-    ),
-    (
-        "/* CTF 1.8 */\nenv { a = \"b\\\u{e9}\"; };",
-        "byte 24, line 2, column 11: found \"\\\"\": this string has a backslash that begins no escape",
-    ),
-    (
-        "/* CTF 1.8 */ /* trace",
-        "byte 14, line 1, column 15: found \"/\": this comment has no end",
-    ),
-    // the end of the text
-    (
-        "/* CTF 1.8 */trace{byte_order=le;major=1;minor=8;};event{name=\"e\";stream_id=3;};",
-        "byte 80, line 1, column 81: found the end of the text: no stream block with number 3 for event \"e\"",
-    ),
-    // a token that is cut at a character
-    (
-        "/* CTF 1.8 */ \"aaaaaaaaaaaaaaaaaaaaaaaaaaaaaaaaaaaaaa\u{e9}\" ",
-        "byte 14, line 1, column 15: found \"\\\"aaaaaaaaaaaaaaaaaaaaaaaaaaaaaaaaaaaaaa\"...: the grammar of TSDL has no such token here: expected `trace`, `env`, `clock`, `stream` or `event`",
-    ),
-    (
-        "/* CTF 1.8 */ abcdefghijklmnopqrstuvwxyz0123456789_abcdef;",
-        "byte 14, line 1, column 15: found \"abcdefghijklmnopqrstuvwxyz0123456789_abc\"...: `abcdefghijklmnopqrstuvwxyz0123456789_abcdef` is not supported here",
-    ),
-];
-
-/// What metadata in packets begins with, in both byte orders, as in CTF 1.8.3, section 7.1.
-pub static PACKETS: &[&[u8]] = &[b"\x57\x1d\xd1\x75\x00\x00", b"\x75\xd1\x1d\x57\x00\x00"];
+/// As many names as are read, and one more. What stands in angle brackets is a word.
+pub const NAMES: &str = r"
+ event{fields:=struct{<1,024 strings>^ -> Syntax
+ event{fields:=struct{<1,024 strings>string ^x; -> Limit
+ env{<256 variables>^ -> Syntax
+ env{<256 variables>^x=1; -> Limit
+ event{fields:=struct{enum:integer{size=8;}{<65,536 labels>^ -> Syntax
+ event{fields:=struct{enum:integer{size=8;}{<65,536 labels>^x=0 -> Limit
+";

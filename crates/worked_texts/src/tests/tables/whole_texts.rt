@@ -3,18 +3,18 @@
 pub const ROOTS: &str = r#"
 { -> NotJson
 [] -> WrongKind
-{} -> Missing trace
-{"trace":null} -> WrongKind trace
-{"trace":5} -> WrongKind trace
-{"trace":{}} -> Missing trace/type
-{"trace":{"type":5}} -> WrongKind trace/type
+{} -> trace: Missing
+{"trace":null} -> trace: WrongKind
+{"trace":5} -> trace: WrongKind
+{"trace":{}} -> trace/type: Missing
+{"trace":{"type":5}} -> trace/type: WrongKind
 {"trace":{"type":{"trace-byte-order":"le"}}} -> accepted
-{"trace":{"type":{"trace-byte-order":"le"}},"x":1} -> Unknown x
-{"trace":{"type":{"trace-byte-order":"le"},"x":1}} -> Unknown trace/x
+{"trace":{"type":{"trace-byte-order":"le"}},"x":1} -> x: Unknown
+{"trace":{"type":{"trace-byte-order":"le"},"x":1}} -> trace/x: Unknown
 {"trace":{"type":{"trace-byte-order":"le"}},"options":{"code":[null]}} -> accepted
-{"trace":{"type":{"trace-byte-order":"le"}},"options":1.5} -> NotWhole options
-{"trace":1e3} -> NotWhole trace
-{"trace":18446744073709551616} -> NotWhole trace
+{"trace":{"type":{"trace-byte-order":"le"}},"options":1.5} -> options: NotWhole
+{"trace":1e3} -> trace: NotWhole
+{"trace":18446744073709551616} -> trace: NotWhole
 {"trace":1e999} -> NotJson
 null -> WrongKind
 5 -> WrongKind
@@ -22,11 +22,11 @@ null -> WrongKind
  -> NotJson
 {"trace":{"type":{"trace-byte-order":"le"}},"options":null} -> accepted
 {"trace":{"type":{"trace-byte-order":"le"}},"options":5} -> accepted
-{"trace":{"type":null}} -> WrongKind trace/type
-{"trace":{"environment":5}} -> Missing trace/type
-{"trace":{"type":5,"environment":5}} -> WrongKind trace/environment
-{"trace":5,"x":1} -> WrongKind trace
-{"options":1} -> Missing trace
+{"trace":{"type":null}} -> trace/type: WrongKind
+{"trace":{"environment":5}} -> trace/type: Missing
+{"trace":{"type":5,"environment":5}} -> trace/environment: WrongKind
+{"trace":5,"x":1} -> trace: WrongKind
+{"options":1} -> trace: Missing
 {"trace":{"type":{"trace-byte-order":"middle"},"type":{"trace-byte-order":"le"}}} -> accepted
-{"trace":{"type":{"trace-byte-order":-0}}} -> NotWhole trace/type/trace-byte-order
+{"trace":{"type":{"trace-byte-order":-0}}} -> trace/type/trace-byte-order: NotWhole
 "#;

@@ -1,18 +1,18 @@
-//! Texts that are metadata, in pairs of two that denote the same.
+//! What metadata texts denote, beside its copy, and the copy of a configuration.
 
-use super::unmarked;
-use crate::tests::described::described;
-use crate::tests::expected::same;
-use std::alloc::Global;
-use std::process::Abort;
+use crate::tests::rows::same;
+use ctf_types::{ClockType, Duplicate, Event, Metadata, Stream, StructType};
+use std::alloc::{AllocError, Global};
 use std::test::Fail;
 use tsdl_flaw::Stop;
 use tsdl_grammar::{Atoms, atom_count};
 use tsdl_meaning::{Survey, first_flaw};
 use tsdl_parser::parse;
 use tsdl_reader::read_metadata;
+use tsdl_writer::write_metadata;
+use worked_fixtures::configured;
 
-/// Two texts behind the magic line that denote the same metadata.
+/// Two texts behind the first line that denote the same metadata.
 static PAIRS: &[(&str, &str)] = &[
     // the smallest text in one line
     (
@@ -99,12 +99,62 @@ static PAIRS: &[(&str, &str)] = &[
     ),
 ];
 
-/// The metadata that a row denotes, as it prints. The search for a first flaw passes over all of it.
-fn read(rt: &impl Abort, alloc: Global, row: &str) -> Result<String, Fail> {
-    let (text, _place) = unmarked(alloc, row.as_bytes())?;
-    same(rt, is_passed_over(alloc, &text)?, true, row);
-    let metadata = read_metadata(alloc, &text)?;
-    Ok(described(alloc, &metadata)?)
+/// Texts behind the first line, and what each denotes.
+static DENOTED: &[(&str, &str)] = &[
+    // the smallest text: one stream of one kind of event record, whose payload is one byte
+    (
+        " trace{byte_order=le;minor=8;major=1;/*x*/packet.header:=struct{integer{base=hex;signed=0;align=0x8;size=0x20;}magic;}align(8);};stream{packet.context:=struct{integer{size=32;align=8;}packet_size;integer{size=32;align=8;}content_size;}align(8);};event{name=e;fields:=struct{integer{size=8;}v;};};",
+        r#"Little None ListOf { items: [] }
+struct 8
+Some(("magic", Plain(Int(IntType { size: 32, align: 8, signed: false, base: Hex, clock: None }))))
+stream 0
+struct 8
+Some(("packet_size", Plain(Int(IntType { size: 32, align: 8, signed: false, base: Dec, clock: None }))))
+Some(("content_size", Plain(Int(IntType { size: 32, align: 8, signed: false, base: Dec, clock: None }))))
+struct 1
+struct 1
+event 0 Text { text: "e" } None
+struct 1
+struct 1
+Some(("v", Plain(Int(IntType { size: 8, align: 8, signed: false, base: Dec, clock: None }))))
+"#,
+    ),
+    (
+        " trace{major=1;minor=8;byte_order=be;packet.header:=struct{integer{size=8;}x;};};stream{id=2;packet.context:=struct{integer{size=32;}packet_size;integer{size=32;}content_size;};};event{id=3;stream_id=2;name=e;loglevel=6;fields:=struct{integer{size=16;}x;};};",
+        r#"Big None ListOf { items: [] }
+struct 1
+Some(("x", Plain(Int(IntType { size: 8, align: 8, signed: false, base: Dec, clock: None }))))
+stream 2
+struct 1
+Some(("packet_size", Plain(Int(IntType { size: 32, align: 8, signed: false, base: Dec, clock: None }))))
+Some(("content_size", Plain(Int(IntType { size: 32, align: 8, signed: false, base: Dec, clock: None }))))
+struct 1
+struct 1
+event 3 Text { text: "e" } Some(6)
+struct 1
+struct 1
+Some(("x", Plain(Int(IntType { size: 16, align: 8, signed: false, base: Dec, clock: None }))))
+"#,
+    ),
+    (
+        " trace{major=1;minor=8;byte_order=be;};env{a=-1;b=\"two words\";};clock{name=c;description=\"a clock\";freq=1000;precision=2;offset_s=-3;offset=4;absolute=true;};",
+        r#"Big None ListOf { items: [EnvironmentEntry { name: Text { text: "a" }, value: Whole(-1) }, EnvironmentEntry { name: Text { text: "b" }, value: Text(Text { text: "two words" }) }] }
+clock Text { text: "c" } None Some(Text { text: "a clock" })
+1000 2 true
+-3 4
+struct 1
+"#,
+    ),
+];
+
+/// What a copy of the metadata holds that a text denotes, line by line. The search for a first flaw passes over all of the text.
+fn denoted(alloc: Global, row: &str) -> Result<String, Fail> {
+    let text = format!(in alloc; "/* CTF 1.8 */{row}")?;
+    if !is_passed_over(alloc, text.as_str().as_bytes())? {
+        return Err("a flaw in what denotes metadata".into());
+    }
+    let metadata = read_metadata(alloc, text.as_str().as_bytes())?;
+    Ok(described(alloc, &metadata.copy(alloc)?)?)
 }
 
 /// Whether the search for a first flaw comes to the end of the text.
@@ -121,9 +171,125 @@ fn is_passed_over(alloc: Global, text: &[u8]) -> Result<bool, Fail> {
 #[test]
 fn reads_what_denotes_the_same_alike(rt: HostRuntime) -> Result<(), Fail> {
     for (text, alike) in PAIRS {
-        let metadata = read(&rt, rt.alloc(), text)?;
-        let other = read(&rt, rt.alloc(), alike)?;
+        let metadata = denoted(rt.alloc(), text)?;
+        let other = denoted(rt.alloc(), alike)?;
         same(&rt, metadata.as_str(), other.as_str(), *alike);
+    }
+    Ok(())
+}
+
+#[test]
+fn reads_and_copies_metadata(rt: HostRuntime) -> Result<(), Fail> {
+    for (text, expected) in DENOTED {
+        let metadata = denoted(rt.alloc(), text)?;
+        same(&rt, metadata.as_str(), *expected, *text);
+    }
+    Ok(())
+}
+
+/// A stream type with one event record type, whose payload is one byte.
+const SMALL: &str =
+    r#"{"trace":{"type":{"trace-byte-order":"le","$features":{"magic-field-type":false,"data-stream-type-id-field-type":false},"data-stream-types":{"s":{"$features":{"packet":{"total-size-field-type":{"class":"uint","size":32},"content-size-field-type":{"class":"uint","size":32},"discarded-event-records-counter-snapshot-field-type":false},"event-record":{"type-id-field-type":false}},"event-record-types":{"e":{"payload-field-type":{"class":"struct","members":[{"x":{"field-type":{"class":"uint","size":8}}}]}}}}}}}}"#;
+
+/// `SMALL` in the metadata language.
+const SMALL_TEXT: &str = "/* CTF 1.8 */
+
+trace {
+\tmajor = 1;
+\tminor = 8;
+\tbyte_order = le;
+};
+
+stream {
+\tid = 0;
+\tpacket.context := struct {
+\t\tinteger { size = 32; align = 8; signed = false; base = 10; } packet_size;
+\t\tinteger { size = 32; align = 8; signed = false; base = 10; } content_size;
+\t} align(8);
+};
+
+event {
+\tname = \"e\";
+\tid = 0;
+\tstream_id = 0;
+\tfields := struct {
+\t\tinteger { size = 8; align = 8; signed = false; base = 10; } x;
+\t} align(1);
+};
+";
+
+/// The metadata of a configuration's copy, and the name of its first stream type.
+fn copied(alloc: Global, text: &str) -> Result<String, Fail> {
+    let copied = configured(alloc, text, None)?.copy(alloc)?;
+    let text = write_metadata(alloc, &copied)?;
+    let stream = copied.streams.get(0).ok_or("no stream type")?;
+    Ok(format!(in alloc; "{text}{}", stream.name.as_str())?)
+}
+
+#[test]
+fn copies_a_configuration(rt: HostRuntime) -> Result<(), Fail> {
+    let found = copied(rt.alloc(), SMALL)?;
+    let expected = format!(in rt.alloc(); "{SMALL_TEXT}s")?;
+    same(&rt, found.as_str(), expected.as_str(), "the configuration");
+    Ok(())
+}
+
+/// All that is in metadata, line by line.
+fn described(alloc: Global, metadata: &Metadata) -> Result<String, AllocError> {
+    let mut out = format!(in alloc;
+        "{:?} {:?} {:?}\n",
+        metadata.order, metadata.uuid, metadata.environment
+    )?;
+    for clock in metadata.clocks.as_slice() {
+        describe_clock(&mut out, clock)?;
+    }
+    describe(&mut out, &metadata.header)?;
+    for stream in metadata.streams.as_slice() {
+        describe_stream(&mut out, stream)?;
+    }
+    Ok(out)
+}
+
+fn describe_clock(out: &mut String, clock: &ClockType) -> Result<(), AllocError> {
+    writeln!(
+        out,
+        "clock {:?} {:?} {:?}\n{} {} {}\n{} {}",
+        clock.name,
+        clock.uuid,
+        clock.description,
+        clock.frequency,
+        clock.precision,
+        clock.absolute,
+        clock.offset_seconds,
+        clock.offset_cycles
+    )
+}
+
+fn describe_stream(out: &mut String, stream: &Stream) -> Result<(), AllocError> {
+    writeln!(out, "stream {}", stream.id)?;
+    describe(out, &stream.context)?;
+    describe(out, &stream.event_header)?;
+    describe(out, &stream.common)?;
+    for event in stream.events.as_slice() {
+        describe_event(out, event)?;
+    }
+    Ok(())
+}
+
+fn describe_event(out: &mut String, event: &Event) -> Result<(), AllocError> {
+    writeln!(
+        out,
+        "event {} {:?} {:?}",
+        event.id, event.name, event.log_level
+    )?;
+    describe(out, &event.specific)?;
+    describe(out, &event.fields)
+}
+
+fn describe(out: &mut String, structure: &StructType) -> Result<(), AllocError> {
+    writeln!(out, "struct {}", structure.min_align)?;
+    for index in 0..structure.members.len() {
+        writeln!(out, "{:?}", structure.members.get(index))?;
     }
     Ok(())
 }
