@@ -5,7 +5,7 @@ ghost use Rattle.ctf_types.specs.Allowed.{IsMetadata};
 use crate::tests::expected::same;
 use crate::tests::stream_files::{Source, metadata_of};
 use ctf_types::{ListOf, Metadata, ReadPacket, Text, Values};
-use packet_reader::{ReadStop, StreamEnding, StreamReader};
+use packet_reader::{ReadStop, StreamReader};
 use std::alloc::{AllocError, Global};
 use std::io::{Error, ErrorKind, Read, Result as ReadResult};
 use std::process::Abort;
@@ -61,113 +61,78 @@ fn refilled(
     Ok((given, packet.records.len()))
 }
 
-/// What three calls answer, and how the file ends then.
-type Answers<T> = ([Result<T, ReadStop>; 3], Option<StreamEnding>);
+/// How many bytes one read gives, and how many all of them give, and whether the reader fails then; what three calls for a packet answer, and how the file ends
+/// then; and the same of three calls that fill a packet in hand.
+type Row = (usize, usize, bool, &'static str, &'static str);
 
-/// How many bytes one read gives, and how many all of them give, and whether the reader fails then; what calls for a packet answer, and what those answer that
-/// fill one in hand.
-static ROWS: &[(
-    usize,
-    usize,
-    bool,
-    Answers<Option<usize>>,
-    Answers<(bool, usize)>,
-)] = &[
+static ROWS: &[Row] = &[
     (
         1,
         20,
         false,
-        (
-            [Ok(Some(2)), Ok(None), Ok(None)],
-            Some(StreamEnding::Torn(16)),
-        ),
-        (
-            [Ok((true, 2)), Ok((false, 0)), Ok((false, 0))],
-            Some(StreamEnding::Torn(16)),
-        ),
+        "Ok(Some(2)) Ok(None) Ok(None) Some(Torn(16))",
+        "Ok((true, 2)) Ok((false, 0)) Ok((false, 0)) Some(Torn(16))",
     ),
     (
         7,
         20,
         false,
-        (
-            [Ok(Some(2)), Ok(None), Ok(None)],
-            Some(StreamEnding::Torn(16)),
-        ),
-        (
-            [Ok((true, 2)), Ok((false, 0)), Ok((false, 0))],
-            Some(StreamEnding::Torn(16)),
-        ),
+        "Ok(Some(2)) Ok(None) Ok(None) Some(Torn(16))",
+        "Ok((true, 2)) Ok((false, 0)) Ok((false, 0)) Some(Torn(16))",
     ),
     (
         20,
         16,
         true,
-        (
-            [
-                Ok(Some(2)),
-                Err(ReadStop::ReaderFault),
-                Err(ReadStop::ReaderFault),
-            ],
-            None,
-        ),
-        (
-            [
-                Ok((true, 2)),
-                Err(ReadStop::ReaderFault),
-                Err(ReadStop::ReaderFault),
-            ],
-            None,
-        ),
+        "Ok(Some(2)) Err(ReaderFault) Err(ReaderFault) None",
+        "Ok((true, 2)) Err(ReaderFault) Err(ReaderFault) None",
     ),
 ];
 
 #[test]
 fn reads_few_bytes_at_a_time_and_keeps_a_fault(rt: HostRuntime) -> Result<(), Fail> {
     let metadata = metadata_of(rt.alloc(), &Source::Written(SMALL, &[]))?;
-    reads_rows(&rt, rt.alloc(), &metadata)
-}
-
-fn reads_rows(rt: &impl Abort, alloc: Global, metadata: &Metadata) -> Result<(), Fail>
-    requires { IsMetadata metadata.now }
-{
-    for (piece, room, fails, calls, fillings) in ROWS {
-        let input = Pieces {
-            bytes: CUT,
-            given: 0,
-            piece: *piece,
-            room: *room,
-            fails: *fails,
-        };
-        let again = Pieces {
-            bytes: CUT,
-            given: 0,
-            piece: *piece,
-            room: *room,
-            fails: *fails,
-        };
-        let found = answers(alloc, metadata, input, again)?;
-        same(rt, found, (*calls, *fillings), (*piece, *room));
+    for row in ROWS {
+        answers_row(&rt, rt.alloc(), &metadata, row)?;
     }
     Ok(())
 }
 
-/// What three calls for a packet answer, and three that fill one in hand.
-fn answers(
-    alloc: Global,
-    metadata: &Metadata,
-    input: Pieces,
-    again: Pieces,
-) -> Result<(Answers<Option<usize>>, Answers<(bool, usize)>), AllocError>
+fn answers_row(rt: &impl Abort, alloc: Global, metadata: &Metadata, row: &Row) -> Result<(), Fail>
+    requires { IsMetadata metadata.now }
+{
+    let (piece, room, fails, calls, fillings) = *row;
+    let input = Pieces {
+        bytes: CUT,
+        given: 0,
+        piece,
+        room,
+        fails,
+    };
+    let again = Pieces { ..input };
+    let found = read_on(alloc, metadata, input)?;
+    same(rt, found.as_str(), calls, (piece, room));
+    let found = filled_again(alloc, metadata, again)?;
+    same(rt, found.as_str(), fillings, (piece, room));
+    Ok(())
+}
+
+/// What three calls for a packet answer, and how the file ends then.
+fn read_on(alloc: Global, metadata: &Metadata, input: Pieces) -> Result<String, AllocError>
     requires { IsMetadata metadata.now }
 {
     let name = Text::from_str(alloc, "a")?;
-    let other = Text::from_str(alloc, "b")?;
     let mut reader = StreamReader::new(alloc, metadata, name, input);
     let first = next_records(&mut reader);
     let second = next_records(&mut reader);
     let third = next_records(&mut reader);
-    let calls = ([first, second, third], reader.end());
+    format!(in alloc; "{first:?} {second:?} {third:?} {:?}", reader.end())
+}
+
+/// What three calls that fill a packet in hand answer, and how the file ends then.
+fn filled_again(alloc: Global, metadata: &Metadata, input: Pieces) -> Result<String, AllocError>
+    requires { IsMetadata metadata.now }
+{
     let mut packet = ReadPacket {
         stream: 0,
         begin: None,
@@ -177,9 +142,10 @@ fn answers(
         extras: Values::new(alloc),
         records: ListOf::new(alloc),
     };
-    let mut reader = StreamReader::new(alloc, metadata, other, again);
+    let name = Text::from_str(alloc, "a")?;
+    let mut reader = StreamReader::new(alloc, metadata, name, input);
     let first = refilled(&mut reader, &mut packet);
     let second = refilled(&mut reader, &mut packet);
     let third = refilled(&mut reader, &mut packet);
-    Ok((calls, ([first, second, third], reader.end())))
+    format!(in alloc; "{first:?} {second:?} {third:?} {:?}", reader.end())
 }
