@@ -13,39 +13,108 @@ const PLAIN: Asked = Asked::Configuration(None);
 
 const IDENTIFIED: Asked = Asked::Configuration(Some(0x79e4_9040_21b5_42d4_a83b_646f_7866_6b62));
 
-static CONFIGURATIONS: &[Table] = &[
+static INTEGERS: &[Table] = &[
     (PLAIN, places::FIELD, integers::FIELDS),
     (PLAIN, places::FIELD, enumerations::FIELDS),
+];
+
+#[test]
+fn judges_integers_and_enumerations(rt: HostRuntime) -> Result<(), Fail> {
+    all_are_said(&rt, rt.alloc(), INTEGERS)
+}
+
+static ARRAYS: &[Table] = &[
     (PLAIN, places::FIELD, arrays::FIELDS),
     (PLAIN, places::PAYLOAD, arrays::PAYLOADS),
+];
+
+#[test]
+fn judges_arrays(rt: HostRuntime) -> Result<(), Fail> {
+    all_are_said(&rt, rt.alloc(), ARRAYS)
+}
+
+static STRUCTURES: &[Table] = &[
     (PLAIN, places::PAYLOAD, structures::PAYLOADS),
+    (PLAIN, places::EVENT, events::EVENTS),
+];
+
+#[test]
+fn judges_structures_and_events(rt: HostRuntime) -> Result<(), Fail> {
+    all_are_said(&rt, rt.alloc(), STRUCTURES)
+}
+
+static INHERITED_TYPES: &[Table] = &[
     (PLAIN, places::FIELD, inheritance::FIELDS),
     (PLAIN, places::PAYLOAD, inheritance::PAYLOADS),
-    (PLAIN, places::EVENT, events::EVENTS),
-    (PLAIN, places::STREAM, data_stream_types::STREAMS),
+    (PLAIN, places::TYPE, inheritance::TRACE_TYPES),
+];
+
+#[test]
+fn judges_types_that_inherit(rt: HostRuntime) -> Result<(), Fail> {
+    all_are_said(&rt, rt.alloc(), INHERITED_TYPES)
+}
+
+static STREAMS: &[Table] = &[(PLAIN, places::STREAM, data_stream_types::STREAMS)];
+
+#[test]
+fn judges_data_stream_types(rt: HostRuntime) -> Result<(), Fail> {
+    all_are_said(&rt, rt.alloc(), STREAMS)
+}
+
+static STREAM_FEATURES: &[Table] = &[
     (PLAIN, places::PACKET, data_stream_features::PACKETS),
     (PLAIN, places::RECORD, data_stream_features::RECORDS),
+];
+
+#[test]
+fn judges_features_of_data_stream_types(rt: HostRuntime) -> Result<(), Fail> {
+    all_are_said(&rt, rt.alloc(), STREAM_FEATURES)
+}
+
+static CLOCKED: &[Table] = &[
     (
         PLAIN,
         places::CLOCKED_STREAM,
         clocked_streams::CLOCKED_STREAMS,
     ),
-    (PLAIN, places::TYPE, trace_types::TRACE_TYPES),
-    (PLAIN, places::FEATURES, trace_features::FEATURES),
-    (PLAIN, places::TYPE, trace_features::TRACE_TYPES),
-    (PLAIN, places::TYPE, inheritance::TRACE_TYPES),
     (PLAIN, places::CLOCK, clock_types::CLOCKS),
-    (PLAIN, places::LOG_LEVELS, aliases::LOG_LEVELS),
-    (PLAIN, places::ALIASES, aliases::FIELD_TYPES),
-    (PLAIN, places::ROOT, whole_texts::ROOTS),
-    (IDENTIFIED, places::ROOT, identified::IDENTIFIED),
-    (PLAIN, places::ENVIRONMENT, environment::ENVIRONMENTS),
 ];
 
 #[test]
-fn judges_configurations(rt: HostRuntime) -> Result<(), Fail> {
-    all_are_said(&rt, rt.alloc(), CONFIGURATIONS)?;
-    all_are_said(&rt, rt.alloc(), RESERVED_WORDS)
+fn judges_streams_with_clocks(rt: HostRuntime) -> Result<(), Fail> {
+    all_are_said(&rt, rt.alloc(), CLOCKED)
+}
+
+static TRACE_TYPES: &[Table] = &[
+    (PLAIN, places::TYPE, trace_types::TRACE_TYPES),
+    (PLAIN, places::ENVIRONMENT, environment::ENVIRONMENTS),
+    (PLAIN, places::ROOT, whole_texts::ROOTS),
+];
+
+#[test]
+fn judges_trace_types(rt: HostRuntime) -> Result<(), Fail> {
+    all_are_said(&rt, rt.alloc(), TRACE_TYPES)
+}
+
+static TRACE_FEATURES: &[Table] = &[
+    (PLAIN, places::FEATURES, trace_features::FEATURES),
+    (PLAIN, places::TYPE, trace_features::TRACE_TYPES),
+];
+
+#[test]
+fn judges_features_of_trace_types(rt: HostRuntime) -> Result<(), Fail> {
+    all_are_said(&rt, rt.alloc(), TRACE_FEATURES)
+}
+
+static ALIASES: &[Table] = &[
+    (PLAIN, places::LOG_LEVELS, aliases::LOG_LEVELS),
+    (PLAIN, places::ALIASES, aliases::FIELD_TYPES),
+    (IDENTIFIED, places::ROOT, identified::IDENTIFIED),
+];
+
+#[test]
+fn judges_aliases_and_identifiers(rt: HostRuntime) -> Result<(), Fail> {
+    all_are_said(&rt, rt.alloc(), ALIASES)
 }
 
 static RESERVED_WORDS: &[Table] = &[
@@ -57,6 +126,11 @@ static RESERVED_WORDS: &[Table] = &[
     (PLAIN, places::LOG_LEVELS, reserved_words::LOG_LEVELS),
     (PLAIN, places::FIELD, reserved_words::FIELDS),
 ];
+
+#[test]
+fn judges_reserved_words(rt: HostRuntime) -> Result<(), Fail> {
+    all_are_said(&rt, rt.alloc(), RESERVED_WORDS)
+}
 
 static LIMITS: &[Table] = &[
     (PLAIN, places::ENVIRONMENT, limits::ENVIRONMENTS),
