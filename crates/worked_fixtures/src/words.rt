@@ -17,7 +17,7 @@ pub fn call_in_words(alloc: Global, words: &str) -> Result<(usize, Args), Fail> 
     Ok((event, args))
 }
 
-/// Values with blanks between them: `5` is an unsigned number, `-2` and `+3` are signed ones, and another word is a text.
+/// Values with blanks between them: `5` is an unsigned number, `-2` and `+3` are signed ones, `""` is a text without bytes, and another word is a text.
 pub fn values_in_words(alloc: Global, words: &str) -> Result<Values, Fail> {
     let mut values = Vec::new(alloc);
     for word in words.split_ascii_whitespace() {
@@ -27,6 +27,9 @@ pub fn values_in_words(alloc: Global, words: &str) -> Result<Values, Fail> {
 }
 
 fn value(alloc: Global, word: &str) -> Result<Value, Fail> {
+    if word == "\"\"" {
+        return Ok(Value::Text(Bytes::new(alloc)));
+    }
     if word.starts_with("-") || word.starts_with("+") {
         return Ok(Value::Signed(word.parse::<i64>()?));
     }

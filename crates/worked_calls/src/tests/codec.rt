@@ -8,7 +8,7 @@ use std::mem;
 use std::process::Abort;
 use std::test::Fail;
 use tsdl_reader::read_metadata;
-use value_codec::{read_struct_into, write_struct};
+use value_codec::{read_member, read_struct_into, write_struct};
 
 /// A number, a dynamic array of 32-bit integers that is empty, and another number: the array aligns what follows.
 static MEMBERS: &[Kind] = &[
@@ -35,6 +35,31 @@ fn writes_a_structure(rt: HostRuntime) -> Result<(), Fail> {
     let end = write_struct(&mut bytes, 96, ByteOrder::Little, &s, given.as_slice());
     same(&rt, end, 168, "the end");
     same(&rt, bytes, WRITTEN, "the bytes");
+    Ok(())
+}
+
+/// Each byte has a 3-bit 5 and behind it a 5-bit 17, of which the second is read alone.
+#[test]
+fn reads_a_member_alone(rt: HostRuntime) -> Result<(), Fail> {
+    let s = structure(rt.alloc(), &[Kind::Int(3, 1, false), Kind::Int(5, 1, false)])?;
+    is_17(&rt, rt.alloc(), &s, ByteOrder::Little, 0x8d)?;
+    is_17(&rt, rt.alloc(), &s, ByteOrder::Big, 0xb1)
+}
+
+fn is_17(
+    rt: &impl Abort,
+    alloc: Global,
+    s: &StructType,
+    order: ByteOrder,
+    byte: u8,
+) -> Result<(), Fail> {
+    if s.members.len() != 2 {
+        return Err("not two members".into());
+    }
+    let before = [Value::Unsigned(5)];
+    let (value, end) = read_member(alloc, &[byte], 3, 8, order, s, 1, &before)?;
+    let found = (matches!(&value, Value::Unsigned(17)), end);
+    same(rt, found, (true, 8), "the second member");
     Ok(())
 }
 

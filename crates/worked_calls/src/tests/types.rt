@@ -7,7 +7,8 @@ mod refills;
 use crate::tests::expected::same;
 use crate::tests::fixtures::{Datum, Kind, configured, structure, values};
 use ctf_types::{
-    ArgFault, Args, Config, Value, Values, align_of, call_faults, fits, members_size, size_from,
+    ArgFault, Args, Base, Config, IntType, Value, Values, align_of, call_faults, fits,
+    members_size, size_from,
 };
 use std::alloc::Global;
 use std::process::Abort;
@@ -79,6 +80,28 @@ fn has_fault(
     let given = values(alloc, data)?;
     same(rt, fits(&s, given.as_slice()), *expected, shows);
     Ok(())
+}
+
+/// The bits of an integer and its alignment, and whether there is one.
+static INTEGERS: &[(u8, u32, bool)] = &[
+    (0, 8, false),
+    (65, 8, false),
+    (8, 3, false),
+    (8, 8192, false),
+    (64, 4096, true),
+];
+
+#[test]
+fn integers_have_1_to_64_bits_and_an_alignment_up_to_4096(rt: HostRuntime) -> Result<(), Fail> {
+    for row in INTEGERS {
+        is_made(&rt, row);
+    }
+    Ok(())
+}
+
+fn is_made(rt: &impl Abort, (size, align, expected): &(u8, u32, bool)) {
+    let made = IntType::new(*size, *align, false, Base::Dec).is_some();
+    same(rt, made, *expected, "an integer");
 }
 
 /// From bit 0, from bit 8, of the members alone, and the alignment.

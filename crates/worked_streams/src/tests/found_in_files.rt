@@ -50,13 +50,13 @@ static FILES: &[(Source, &str, &str)] = &[
     ),
     (
         Source::Written(SMALL, COUNTED),
-        "c11ffcc1 88000000 88000000 00000000 01 c11ffcc1 88000000 88000000 01000000 06",
-        "8 [] None Some(ResumePoint { stream: Some(0), sequence: 2, discarded: 1, floor: 0 }) Whole [ReadPacket { stream: 0, begin: None, end: None, sequence: None, discarded: Some(0), extras: Values { items: [] }, records: ListOf { items: [Record { event: 0, clock: None, common: Values { items: [] }, specific: Values { items: [] }, payload: Values { items: [Unsigned(1)] } }] } }, ReadPacket { stream: 0, begin: None, end: None, sequence: None, discarded: Some(1), extras: Values { items: [] }, records: ListOf { items: [Record { event: 0, clock: None, common: Values { items: [] }, specific: Values { items: [] }, payload: Values { items: [Unsigned(6)] } }] } }]",
+        "c11ffcc1 a0000000 a0000000 00000000 01020304 c11ffcc1 a0000000 88000000 01000000 06000000",
+        "8 [] None Some(ResumePoint { stream: Some(0), sequence: 2, discarded: 1, floor: 0 }) Whole [ReadPacket { stream: 0, begin: None, end: None, sequence: None, discarded: Some(0), extras: Values { items: [] }, records: ListOf { items: [Record { event: 0, clock: None, common: Values { items: [] }, specific: Values { items: [] }, payload: Values { items: [Unsigned(1)] } }, Record { event: 0, clock: None, common: Values { items: [] }, specific: Values { items: [] }, payload: Values { items: [Unsigned(2)] } }, Record { event: 0, clock: None, common: Values { items: [] }, specific: Values { items: [] }, payload: Values { items: [Unsigned(3)] } }, Record { event: 0, clock: None, common: Values { items: [] }, specific: Values { items: [] }, payload: Values { items: [Unsigned(4)] } }] } }, ReadPacket { stream: 0, begin: None, end: None, sequence: None, discarded: Some(1), extras: Values { items: [] }, records: ListOf { items: [Record { event: 0, clock: None, common: Values { items: [] }, specific: Values { items: [] }, payload: Values { items: [Unsigned(6)] } }] } }]",
     ),
     (
         Source::Written(SMALL, &[]),
-        "c11ffcc1 80000000 60000000 00000000 c11ffcc1",
-        "8 [] None None Torn(16) [ReadPacket { stream: 0, begin: None, end: None, sequence: None, discarded: None, extras: Values { items: [] }, records: ListOf { items: [] } }]",
+        "c11ffcc1 80000000 70000000 01020000 c11ffcc1",
+        "8 [] None None Torn(16) [ReadPacket { stream: 0, begin: None, end: None, sequence: None, discarded: None, extras: Values { items: [] }, records: ListOf { items: [Record { event: 0, clock: None, common: Values { items: [] }, specific: Values { items: [] }, payload: Values { items: [Unsigned(1)] } }, Record { event: 0, clock: None, common: Values { items: [] }, specific: Values { items: [] }, payload: Values { items: [Unsigned(2)] } }] } }]",
     ),
     // from 4 on at 4, 5, 5 and 6 by their last bits
     (

@@ -33,6 +33,8 @@ struct Row {
     fault: Option<StreamFault>,
     /// The calls, a line each, with what they answer.
     calls: &'static str,
+    /// What the stream leaves behind them where it ends, where the row says so: the first packet that waits then, and whether one is left that came back.
+    end: Option<&'static str>,
 }
 
 /// The small configuration over two buffers of 16 bytes.
@@ -49,6 +51,7 @@ const START: Row = Row {
     handing: &[],
     fault: None,
     calls: "",
+    end: None,
 };
 
 const COUNTED: Changes = &[("DISCARDED", r#"{"class":"uint","size":32}"#)];
@@ -68,6 +71,14 @@ trace 0 2 -> Accepted(None)
 close -> Done
 collect -> c11ffcc1800000007000000001020000
 collect -> none",
+        ..START
+    },
+    Row {
+        shows: "a packet that is open waits where the stream ends",
+        calls: "
+trace 0 1 -> Accepted(None)
+trace 0 2 -> Accepted(None)",
+        end: Some("c11ffcc1800000007000000001020000, left false"),
         ..START
     },
     Row {
@@ -129,7 +140,7 @@ extras 256 -> Some(BadExtras(Range))",
     Row {
         shows: "extra members are set where they have room",
         changes: &[("EXTRAS", r#"[{"n":{"field-type":{"class":"str"}}}]"#)],
-        extras: "a",
+        extras: r#""""#,
         calls: "
 extras abc -> None
 extras abcd -> Some(BufferTooSmall)",
@@ -295,9 +306,9 @@ fn runs_by(rt: &impl Abort, alloc: Global, row: &Row, config: &Config) -> Result
         ),
     };
     match made {
-        Ok(mut stream) => {
+        Ok(stream) => {
             same(rt, None, row.fault, row.shows);
-            answers_all(rt, alloc, &mut stream, row)
+            answers_all(rt, alloc, stream, row)
         }
         Err(refused) => {
             same(rt, Some(refused.fault), row.fault, row.shows);
@@ -321,7 +332,21 @@ fn back_end(alloc: Global, row: &Row) -> Result<ScriptedBackEnd, Fail> {
 
 type ScriptedStream = Stream<ListClock, ScriptedBackEnd>;
 
+/// The calls of a row, and the end of its stream.
 fn answers_all(
+    rt: &impl Abort,
+    alloc: Global,
+    stream: ScriptedStream,
+    row: &Row,
+) -> Result<(), Fail> {
+    let mut stream = stream;
+    match answers_each(rt, alloc, &mut stream, row) {
+        Ok(()) => ends_so(rt, alloc, stream, row),
+        Err(fail) => Err(fail),
+    }
+}
+
+fn answers_each(
     rt: &impl Abort,
     alloc: Global,
     stream: &mut ScriptedStream,
@@ -333,6 +358,29 @@ fn answers_all(
         same(rt, found.as_str(), want, (row.shows, line));
     }
     Ok(())
+}
+
+/// The stream ends as the row says, where it says so.
+fn ends_so(
+    rt: &impl Abort,
+    alloc: Global,
+    stream: ScriptedStream,
+    row: &Row,
+) -> Result<(), Fail> {
+    let found = ended(alloc, stream)?;
+    if let Some(want) = row.end {
+        same(rt, found.as_str(), want, row.shows);
+    }
+    Ok(())
+}
+
+/// The first packet that waits where the stream ends, and whether one is left that came back.
+fn ended(alloc: Global, stream: ScriptedStream) -> Result<String, Fail> {
+    let (end, _clock) = stream.finish();
+    let is_left = end.left.is_some();
+    let mut queue = end.done;
+    let first = collected(alloc, &mut queue)?;
+    Ok(format!(in alloc; "{first}, left {is_left}")?)
 }
 
 /// What a call answers, or what is told of the stream.
@@ -367,12 +415,12 @@ fn answer(alloc: Global, stream: &mut ScriptedStream, call: &str) -> Result<Stri
 }
 
 /// The bytes of the next packet in hexadecimal, whose buffer goes back.
-fn collected(alloc: Global, stream: &mut ScriptedStream) -> Result<String, Fail> {
-    match stream.take() {
+fn collected(alloc: Global, queue: &mut impl PacketSource) -> Result<String, Fail> {
+    match queue.take() {
         None => Ok(String::from_str(alloc, "none")?),
         Some(packet) => {
             let digits = hex::encode(alloc, packet.bytes())?;
-            stream.give_back(packet.into_buf());
+            queue.give_back(packet.into_buf());
             Ok(digits)
         }
     }

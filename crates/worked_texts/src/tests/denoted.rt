@@ -10,13 +10,16 @@ use tsdl_meaning::{Survey, first_flaw};
 use tsdl_parser::parse;
 use tsdl_reader::read_metadata;
 use tsdl_writer::write_metadata;
-use worked_fixtures::configured;
+use worked_fixtures::small;
+
+/// The metadata text of `SMALL`, behind the first line.
+const SMALL_TEXT: &str = "\n\ntrace {\n\tmajor = 1;\n\tminor = 8;\n\tbyte_order = le;\n\tpacket.header := struct {\n\t\tinteger { size = 32; align = 8; signed = false; base = 16; } magic;\n\t} align(8);\n};\n\nstream {\n\tid = 0;\n\tpacket.context := struct {\n\t\tinteger { size = 32; align = 8; signed = false; base = 10; } packet_size;\n\t\tinteger { size = 32; align = 8; signed = false; base = 10; } content_size;\n\t} align(8);\n};\n\nevent {\n\tname = \"e\";\n\tid = 0;\n\tstream_id = 0;\n\tfields := struct {\n\t\tinteger { size = 8; align = 8; signed = false; base = 10; } v;\n\t} align(1);\n};\n";
 
 /// Two texts behind the first line that denote the same metadata.
 static PAIRS: &[(&str, &str)] = &[
     // the smallest text in one line
     (
-        "\n\ntrace {\n\tmajor = 1;\n\tminor = 8;\n\tbyte_order = le;\n\tpacket.header := struct {\n\t\tinteger { size = 32; align = 8; signed = false; base = 16; } magic;\n\t} align(8);\n};\n\nstream {\n\tid = 0;\n\tpacket.context := struct {\n\t\tinteger { size = 32; align = 8; signed = false; base = 10; } packet_size;\n\t\tinteger { size = 32; align = 8; signed = false; base = 10; } content_size;\n\t} align(8);\n};\n\nevent {\n\tname = \"e\";\n\tid = 0;\n\tstream_id = 0;\n\tfields := struct {\n\t\tinteger { size = 8; align = 8; signed = false; base = 10; } v;\n\t} align(1);\n};\n",
+        SMALL_TEXT,
         " trace{byte_order=le;minor=8;major=1;/*x*/packet.header:=struct{integer{base=hex;signed=0;align=0x8;size=0x20;}magic;}align(8);};stream{packet.context:=struct{integer{size=32;align=8;}packet_size;integer{size=32;align=8;}content_size;}align(8);};event{name=e;fields:=struct{integer{size=8;}v;};};",
     ),
     // blocks in any order
@@ -187,49 +190,21 @@ fn reads_and_copies_metadata(rt: HostRuntime) -> Result<(), Fail> {
     Ok(())
 }
 
-/// A stream type with one event record type, whose payload is one byte.
-const SMALL: &str =
-    r#"{"trace":{"type":{"trace-byte-order":"le","$features":{"magic-field-type":false,"data-stream-type-id-field-type":false},"data-stream-types":{"s":{"$features":{"packet":{"total-size-field-type":{"class":"uint","size":32},"content-size-field-type":{"class":"uint","size":32},"discarded-event-records-counter-snapshot-field-type":false},"event-record":{"type-id-field-type":false}},"event-record-types":{"e":{"payload-field-type":{"class":"struct","members":[{"x":{"field-type":{"class":"uint","size":8}}}]}}}}}}}}"#;
-
-/// `SMALL` in the metadata language.
-const SMALL_TEXT: &str = "/* CTF 1.8 */
-
-trace {
-\tmajor = 1;
-\tminor = 8;
-\tbyte_order = le;
-};
-
-stream {
-\tid = 0;
-\tpacket.context := struct {
-\t\tinteger { size = 32; align = 8; signed = false; base = 10; } packet_size;
-\t\tinteger { size = 32; align = 8; signed = false; base = 10; } content_size;
-\t} align(8);
-};
-
-event {
-\tname = \"e\";
-\tid = 0;
-\tstream_id = 0;
-\tfields := struct {
-\t\tinteger { size = 8; align = 8; signed = false; base = 10; } x;
-\t} align(1);
-};
-";
-
-/// The metadata of a configuration's copy, and the name of its first stream type.
-fn copied(alloc: Global, text: &str) -> Result<String, Fail> {
-    let copied = configured(alloc, text, None)?.copy(alloc)?;
+/// The metadata text of a copy of the small configuration, and of its stream type the name, the default clock, and the number of extra members with their alignment.
+fn copied(alloc: Global) -> Result<String, Fail> {
+    let copied = small(alloc, &[])?.copy(alloc)?;
     let text = write_metadata(alloc, &copied)?;
     let stream = copied.streams.get(0).ok_or("no stream type")?;
-    Ok(format!(in alloc; "{text}{}", stream.name.as_str())?)
+    let (name, clock) = (stream.name.as_str(), &stream.default_clock);
+    let (extras, align) = (stream.extras.members.len(), stream.extras.min_align);
+    Ok(format!(in alloc; "{text}{name} {clock:?} {extras} {align}")?)
 }
 
+/// The text says all of a configuration but what stands behind it.
 #[test]
 fn copies_a_configuration(rt: HostRuntime) -> Result<(), Fail> {
-    let found = copied(rt.alloc(), SMALL)?;
-    let expected = format!(in rt.alloc(); "{SMALL_TEXT}s")?;
+    let found = copied(rt.alloc())?;
+    let expected = format!(in rt.alloc(); "/* CTF 1.8 */{SMALL_TEXT}s None 0 1")?;
     same(&rt, found.as_str(), expected.as_str(), "the configuration");
     Ok(())
 }

@@ -14,9 +14,11 @@ use trace_clock::{ClockFault, TickClock, TickSeat};
 use trace_stack::{Act, Worker};
 use worked_fixtures::call_in_words;
 
-/// What a worker of the stream type `s` is told, over a ring of one place.
+/// What a worker is told, over a ring of one place.
 #[derive(Clone, Copy)]
 pub struct Task {
+    /// The name of the stream's type.
+    pub type_name: &'static str,
     /// The length of a packet.
     pub bytes: usize,
     /// Its calls, a line each.
@@ -38,7 +40,7 @@ pub fn worker<W: Drop>(
     if bytes == 0 || bytes > 1 << 20 {
         return Err("no such ring".into());
     }
-    let type_name = Text::from_str(alloc, "s")?;
+    let type_name = Text::from_str(alloc, task.type_name)?;
     let acts = acts(alloc, task.calls)?;
     let (back_end, ring_end) = ring(alloc, 1, bytes)?;
     Ok(Worker {

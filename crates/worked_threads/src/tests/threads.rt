@@ -22,11 +22,14 @@ use std::time::Clock;
 use thread_stream::{PacketAnswer, StreamFault, Verdict, Why};
 use trace_clock::{TickClock, TickSeat};
 use trace_platform::MemorySink;
-use trace_stack::{Answer, Gate, NotRun, ReadTrace, ThreadsFault, ThreadsRun, Worker, run_threads};
+use trace_stack::{
+    Answer, Gate, NotRun, OpenGate, ReadTrace, ThreadsFault, ThreadsRun, Worker, run_threads,
+};
 use worked_fixtures::{bytes_of, shown_streams, small};
 
 /// Two event records in one packet of 64 bytes, and one more for which the clock has no reading left.
 pub const TWO_RECORDS: Task = Task {
+    type_name: "s",
     bytes: 64,
     calls: r#"
 trace 0 -2
@@ -203,6 +206,7 @@ fn runs_two_workers_at_once_over_one_clock(rt: HostRuntime) -> Result<(), Fail> 
 
 /// Two packets without event records.
 const TWO_PACKETS: Task = Task {
+    type_name: "s",
     bytes: 16,
     calls: r#"
 open
@@ -306,6 +310,23 @@ fn tells_that_the_gate_shut(rt: HostRuntime) -> Result<(), Fail> {
     };
     same(&rt, (first.len(), second.len()), (1, 1), "answers");
     Ok(())
+}
+
+/// Of no stream type that is there.
+const OF_NO_TYPE: Task = Task {
+    type_name: "t",
+    ..TWO_RECORDS
+};
+
+#[test]
+fn hands_both_workers_back_where_one_has_no_type(rt: HostRuntime) -> Result<(), Fail> {
+    match run_two(&rt, rt.alloc(), &OF_NO_TYPE, &OpenGate)? {
+        Err(refused) => {
+            are_handed_back(&rt, &refused, StreamFault::NoSuchStream, "no such type");
+            Ok(())
+        }
+        Ok(_) => Err("a worker of no stream type ran".into()),
+    }
 }
 
 /// Both workers were refused for this fault, and are as they were.
