@@ -41,7 +41,10 @@ fn writes_a_structure(rt: HostRuntime) -> Result<(), Fail> {
 /// Each byte has a 3-bit 5 and behind it a 5-bit 17, of which the second is read alone.
 #[test]
 fn reads_a_member_alone(rt: HostRuntime) -> Result<(), Fail> {
-    let s = structure(rt.alloc(), &[Kind::Int(3, 1, false), Kind::Int(5, 1, false)])?;
+    let s = structure(
+        rt.alloc(),
+        &[Kind::Int(3, 1, false), Kind::Int(5, 1, false)],
+    )?;
     is_17(&rt, rt.alloc(), &s, ByteOrder::Little, 0x8d)?;
     is_17(&rt, rt.alloc(), &s, ByteOrder::Big, 0xb1)
 }

@@ -5,15 +5,23 @@
 mod reading;
 mod sessions;
 
+use crate::tests::expected::same;
 use reading::{prints_from_bytes, prints_from_readers};
-use sessions::recorded;
+use sessions::{ALL, BESIDE, recorded};
 use std::test::Fail;
 
 #[test]
 fn runs_a_script_and_prints_its_trace(rt: HostRuntime) -> Result<(), Fail> {
-    let (metadata, files) = recorded(&rt, rt.alloc())?;
+    let (metadata, files) = recorded(&rt, rt.alloc(), &ALL)?;
     prints_from_bytes(&rt, rt.alloc(), metadata.as_str(), &files)?;
     prints_from_readers(&rt, rt.alloc(), metadata.as_str(), &files)
+}
+
+#[test]
+fn goes_on_beside_a_sink_that_faults(rt: HostRuntime) -> Result<(), Fail> {
+    let (_metadata, files) = recorded(&rt, rt.alloc(), &BESIDE)?;
+    same(&rt, files.len(), 2, "files");
+    Ok(())
 }
 
 /// What the second call answers.

@@ -361,12 +361,7 @@ fn answers_each(
 }
 
 /// The stream ends as the row says, where it says so.
-fn ends_so(
-    rt: &impl Abort,
-    alloc: Global,
-    stream: ScriptedStream,
-    row: &Row,
-) -> Result<(), Fail> {
+fn ends_so(rt: &impl Abort, alloc: Global, stream: ScriptedStream, row: &Row) -> Result<(), Fail> {
     let found = ended(alloc, stream)?;
     if let Some(want) = row.end {
         same(rt, found.as_str(), want, row.shows);

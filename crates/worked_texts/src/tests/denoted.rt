@@ -12,8 +12,9 @@ use tsdl_reader::read_metadata;
 use tsdl_writer::write_metadata;
 use worked_fixtures::small;
 
-/// The metadata text of `SMALL`, behind the first line.
-const SMALL_TEXT: &str = "\n\ntrace {\n\tmajor = 1;\n\tminor = 8;\n\tbyte_order = le;\n\tpacket.header := struct {\n\t\tinteger { size = 32; align = 8; signed = false; base = 16; } magic;\n\t} align(8);\n};\n\nstream {\n\tid = 0;\n\tpacket.context := struct {\n\t\tinteger { size = 32; align = 8; signed = false; base = 10; } packet_size;\n\t\tinteger { size = 32; align = 8; signed = false; base = 10; } content_size;\n\t} align(8);\n};\n\nevent {\n\tname = \"e\";\n\tid = 0;\n\tstream_id = 0;\n\tfields := struct {\n\t\tinteger { size = 8; align = 8; signed = false; base = 10; } v;\n\t} align(1);\n};\n";
+/// The metadata text of the small configuration, behind the first line.
+const SMALL_TEXT: &str =
+    "\n\ntrace {\n\tmajor = 1;\n\tminor = 8;\n\tbyte_order = le;\n\tpacket.header := struct {\n\t\tinteger { size = 32; align = 8; signed = false; base = 16; } magic;\n\t} align(8);\n};\n\nstream {\n\tid = 0;\n\tpacket.context := struct {\n\t\tinteger { size = 32; align = 8; signed = false; base = 10; } packet_size;\n\t\tinteger { size = 32; align = 8; signed = false; base = 10; } content_size;\n\t} align(8);\n};\n\nevent {\n\tname = \"e\";\n\tid = 0;\n\tstream_id = 0;\n\tfields := struct {\n\t\tinteger { size = 8; align = 8; signed = false; base = 10; } v;\n\t} align(1);\n};\n";
 
 /// Two texts behind the first line that denote the same metadata.
 static PAIRS: &[(&str, &str)] = &[

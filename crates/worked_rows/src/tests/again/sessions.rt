@@ -1,4 +1,5 @@
 //! A session of three streams: a sink that faults at its first packet, streams of two types with back ends of two sizes, and other extra members in the middle.
+//! And one of two streams of the small configuration, of which the first one's sink faults.
 
 ghost use Rattle.std.specs.Prelude.{◌≡◌, [], IfOk};
 ghost use Rattle.ctf_types.specs.AllowedConfig.{IsConfig};
@@ -8,7 +9,6 @@ use crate::tests::expected::same;
 use crate::tests::session_steps::{Listed, TWO_TYPES, are_below, back_end, clock, sink};
 use conf_check::configure;
 use ctf_types::Config;
-use packet_collector::FinishAnswer;
 use std::alloc::Global;
 use std::process::Abort;
 use std::test::Fail;
@@ -16,7 +16,9 @@ use thread_stream::StreamFault;
 use trace_platform::{ListBackEnd, ListClock, ScriptedSink};
 use trace_stack::{Act, AddFault, Answer, Event, FinishedSession, NotAdded, Session, run_events};
 use trace_text::{ScriptFaultKind, read_script};
-use worked_fixtures::{bytes_of, call_in_words, configuration, granted, values_in_words};
+use worked_fixtures::{
+    SMALL, bytes_of, call_in_words, changed, configuration, granted, values_in_words,
+};
 
 /// What a stream is made from, and what its sink has in the end, in hexadecimal.
 struct Source {
@@ -30,8 +32,65 @@ struct Source {
     file: &'static str,
 }
 
+/// What a session is made from, the calls of its streams, and what they answer.
+pub struct Run {
+    /// The text of a configuration, in which the plain words of `SMALL` may stand.
+    text: &'static str,
+    sources: &'static [Source],
+    /// A script with the calls.
+    script: &'static str,
+    answers: &'static str,
+    /// What is answered where the second stream then is to have an extra member that does not fit and one that does, is collected and traces, where it does so.
+    others: Option<&'static str>,
+    /// How the streams are finished.
+    ends: &'static str,
+}
+
+/// Of three streams.
+pub static ALL: Run = Run {
+    text: TWO_TYPES,
+    sources: SOURCES,
+    script: SCRIPT,
+    answers: ANSWERS,
+    others: Some(OTHERS),
+    ends: "[Faulted, Settled, Settled]",
+};
+
+/// The first stream's sink faults at once, and the second stream has its packet.
+pub static BESIDE: Run = Run {
+    text: SMALL,
+    sources: TWO_SOURCES,
+    script: r#"{"streams":[{"name":"a","type":"s"},{"name":"b","type":"s"}],"events":[{"open":"a"},{"close":"a"},{"collect":"a"},{"collect":"a"},{"trace":"b","event":"e","payload":[1]},{"trace":"b","event":"e","payload":[2]}]}"#,
+    answers: "[Packet(Done), Packet(Done), Collected(Faulted), Collected(Faulted), Traced(Accepted(None)), Traced(Accepted(None))]",
+    others: None,
+    ends: "[Faulted, Settled]",
+};
+
+const TWO_SOURCES: &[Source] = &[
+    Source {
+        name: "a",
+        type_name: "s",
+        readings: &[],
+        buffers: 2,
+        bytes: 16,
+        extras: "",
+        faults: true,
+        file: "",
+    },
+    Source {
+        name: "b",
+        type_name: "s",
+        readings: &[],
+        buffers: 2,
+        bytes: 16,
+        extras: "",
+        faults: false,
+        file: "c11ffcc1 80000000 70000000 01020000",
+    },
+];
+
 /// A packet of `p` has room for two event records, and its back end for one packet.
-static SOURCES: &[Source] = &[
+const SOURCES: &[Source] = &[
     Source {
         name: "f",
         type_name: "plain",
@@ -72,7 +131,6 @@ const SCRIPT: &str =
 const ANSWERS: &str =
     "[Packet(Done), Traced(Accepted(None)), Packet(Done), Collected(Faulted), Traced(Accepted(Some(10))), Collected(Faulted), Collected(Nothing), Traced(Accepted(None)), Traced(Discarded(BackEndFull)), Set, Traced(Disabled), Set, Traced(Accepted(Some(11))), Packet(Done), Collected(Took(0)), Collected(Nothing), Traced(Discarded(ClockSpent))]";
 
-/// What is answered where `p` then is to have an extra member that does not fit and one that does, is collected and traces.
 const OTHERS: &str = "[NotSet(BadExtras(Range)), Set, Collected(Took(0)), Traced(Accepted(None))]";
 
 /// A stream file by its name.
@@ -81,30 +139,33 @@ pub type Files = Vec<(String, Vec<u8>)>;
 type Refused = NotAdded<ListClock, ListBackEnd, ScriptedSink>;
 
 /// The metadata of a session, and the stream files behind its calls.
-pub fn recorded(rt: &impl Abort, alloc: Global) -> Result<(String, Files), Fail> {
-    let mut session = Session::new(alloc, config(alloc)?);
-    let metadata = driven(rt, alloc, &mut session)?;
-    let files = files_of(rt, alloc, session)?;
+pub fn recorded(rt: &impl Abort, alloc: Global, run: &Run) -> Result<(String, Files), Fail> {
+    let mut session = Session::new(alloc, config(alloc, run)?);
+    let metadata = driven(rt, alloc, &mut session, run)?;
+    let files = files_of(rt, alloc, session, run)?;
     Ok((metadata, files))
 }
 
-fn config(alloc: Global) -> Result<Config, Fail>
+fn config(alloc: Global, run: &Run) -> Result<Config, Fail>
     ensures { IfOk result (λ c. IsConfig c) }
 {
-    match configure(alloc, TWO_TYPES.as_bytes(), None) {
+    let text = granted(changed(alloc, run.text, &[]))?;
+    match configure(alloc, text.as_bytes(), None) {
         Ok(config) => Ok(config),
-        Err(fault) if fault.is_memory() => configuration(alloc, TWO_TYPES),
+        Err(fault) if fault.is_memory() => configuration(alloc, text.as_str()),
         Err(fault) => Err(Fail::new(fault)),
     }
 }
 
 /// The metadata of a session that takes the streams and their calls.
-fn driven(rt: &impl Abort, alloc: Global, session: &mut Listed) -> Result<String, Fail> {
-    for source in SOURCES {
+fn driven(rt: &impl Abort, alloc: Global, session: &mut Listed, run: &Run) -> Result<String, Fail> {
+    for source in run.sources {
         adds(alloc, session, source)?;
     }
-    answers(rt, alloc, session, script_events(alloc)?, ANSWERS)?;
-    answers(rt, alloc, session, other_extras(alloc)?, OTHERS)?;
+    answers(rt, alloc, session, script_events(alloc, run)?, run.answers)?;
+    if let Some(others) = run.others {
+        answers(rt, alloc, session, other_extras(alloc)?, others)?;
+    }
     metadata(session)
 }
 
@@ -140,23 +201,23 @@ fn added_again(session: &mut Listed, source: &Source, refused: Refused) -> Resul
 }
 
 /// The events of the script.
-fn script_events(alloc: Global) -> Result<Vec<Event>, Fail> {
-    let config = config(alloc)?;
-    events_by(alloc, &config)
+fn script_events(alloc: Global, run: &Run) -> Result<Vec<Event>, Fail> {
+    let config = config(alloc, run)?;
+    events_by(alloc, &config, run.script)
 }
 
-fn events_by(alloc: Global, config: &Config) -> Result<Vec<Event>, Fail> {
-    match read_script(alloc, config, SCRIPT.as_bytes()) {
+fn events_by(alloc: Global, config: &Config, script: &str) -> Result<Vec<Event>, Fail> {
+    match read_script(alloc, config, script.as_bytes()) {
         Ok(script) => Ok(script.events.into_vec()),
         Err(fault) if fault.kind == ScriptFaultKind::OutOfMemory => {
-            let script = at_last(read_script(alloc, config, SCRIPT.as_bytes()))?;
+            let script = at_last(read_script(alloc, config, script.as_bytes()))?;
             Ok(script.events.into_vec())
         }
         Err(fault) => Err(Fail::new(fault.kind)),
     }
 }
 
-/// Other extra members for `p`, a collection, and an event record behind it.
+/// Other extra members for the second stream, a collection, and an event record behind it.
 fn other_extras(alloc: Global) -> Result<Vec<Event>, Fail> {
     let stream = 1;
     let wide = Act::Extras(values_in_words(alloc, "256")?);
@@ -213,15 +274,9 @@ fn metadata(session: &Listed) -> Result<String, Fail> {
 }
 
 /// The stream files, once the session is finished.
-fn files_of(rt: &impl Abort, alloc: Global, session: Listed) -> Result<Files, Fail> {
+fn files_of(rt: &impl Abort, alloc: Global, session: Listed, run: &Run) -> Result<Files, Fail> {
     let finished = finished(session)?;
-    let ends = [
-        FinishAnswer::Faulted,
-        FinishAnswer::Settled,
-        FinishAnswer::Settled,
-    ];
-    same(rt, finished.answers.as_slice(), ends.as_slice(), "ends");
-    named(rt, alloc, finished.sinks.as_slice())
+    named(rt, alloc, &finished, run)
 }
 
 fn finished(session: Listed) -> Result<FinishedSession<ScriptedSink>, Fail> {
@@ -231,10 +286,17 @@ fn finished(session: Listed) -> Result<FinishedSession<ScriptedSink>, Fail> {
     }
 }
 
-/// The stream files by their names.
-fn named(rt: &impl Abort, alloc: Global, sinks: &[ScriptedSink]) -> Result<Files, Fail> {
+/// The stream files by their names, where the streams were finished as the run says.
+fn named(
+    rt: &impl Abort,
+    alloc: Global,
+    finished: &FinishedSession<ScriptedSink>,
+    run: &Run,
+) -> Result<Files, Fail> {
+    let ends = granted(format!(in alloc; "{:?}", finished.answers.as_slice()))?;
+    same(rt, ends.as_str(), run.ends, "ends");
     let mut files = Vec::new(alloc);
-    for (source, sink) in SOURCES.iter().zip(sinks) {
+    for (source, sink) in run.sources.iter().zip(finished.sinks.as_slice()) {
         files.push(file_of(rt, alloc, source, sink.sink.bytes())?)?;
     }
     Ok(files)
