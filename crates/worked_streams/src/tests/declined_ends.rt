@@ -1,4 +1,4 @@
-//! What a collector gathers where a writer stops, and what is read of it; and what it gathers by the end of a stream, where that end is given and where it is declined.
+//! What a collector gathers where a writer stops, and what is read of that; and by the end of a stream, where that end is given and where it is declined.
 
 use crate::tests::expected::same;
 use crate::tests::rings::packet;
@@ -82,8 +82,8 @@ fn has_a_front_of_the_packets_where_a_writer_stops(rt: HostRuntime) -> Result<()
     Ok(())
 }
 
-/// What a writer has of both packets that takes 5 bytes at a time, and no more than there is room for, and what is read of it. Its sink takes the first packet and
-/// faults at the second.
+/// What a writer has of both packets that takes 5 bytes at a time, and no more than there is room for, and what is read of that. Its sink takes the first packet
+/// and faults at the second.
 fn front(rt: &impl Abort, alloc: Global, room: usize) -> Result<String, Fail> {
     let mut source = source(alloc, true)?;
     let mut sink = WriterSink::new(StoppingWriter::new(alloc, room, 5));

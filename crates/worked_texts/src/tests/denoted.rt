@@ -191,7 +191,8 @@ fn reads_and_copies_metadata(rt: HostRuntime) -> Result<(), Fail> {
     Ok(())
 }
 
-/// The metadata text of a copy of the small configuration, and of its stream type the name, the default clock, and the number of extra members with their alignment.
+/// The metadata text of a copy of the small configuration; and of its stream type the name, the default clock, and how many extra members it has with their
+/// alignment.
 fn copied(alloc: Global) -> Result<String, Fail> {
     let copied = small(alloc, &[])?.copy(alloc)?;
     let text = write_metadata(alloc, &copied)?;
