@@ -3,6 +3,7 @@
 
 mod answer;
 mod answer_lines;
+mod bad_value;
 mod check_command;
 mod end_lines;
 mod failure;

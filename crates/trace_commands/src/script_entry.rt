@@ -6,9 +6,10 @@ ghost use Rattle.serde_json.specs.View.{view};
 ghost use Rattle.trace_text.specs.ScriptFaults.{IsFirstFault};
 ghost use Rattle.trace_commands.specs.ScriptLines.{SaysEntry, TellsKind, of_entry};
 
+use crate::bad_value::{push_bad_extra, push_bad_field};
 use crate::script_form::{push_event_property, push_property, push_value};
 use conf_fault::push_cut;
-use ctf_types::{Config, StreamType};
+use ctf_types::{Config, EventType, StreamType};
 use serde_json::Value;
 use std::alloc::{AllocError, Global};
 use trace_text::{FaultyList, ScriptFault, ScriptFaultKind, ScriptObject, faulty_list};
@@ -81,7 +82,9 @@ fn push_wrong(
     if kind == ScriptFaultKind::Shape && push_form(alloc, said, place)? {
         return Ok(());
     }
-    push_blamed(alloc, said, place, kind)?;
+    if kind != ScriptFaultKind::BadValue || !push_bad(alloc, said, config, script, place)? {
+        push_blamed(alloc, said, place, kind)?;
+    }
     let kind_words = format!(in alloc; ": {kind}")?;
     said.push_str(kind_words.as_str())?;
     push_known(alloc, said, config, script, place, kind)
@@ -93,6 +96,29 @@ fn push_form(alloc: Global, said: &mut String, place: &Place<'_>) -> Result<bool
         FaultyList::Neither => push_property(alloc, said, place.value, ScriptObject::Whole),
         FaultyList::Streams => push_property(alloc, said, place.value, ScriptObject::Stream),
         FaultyList::Events => push_event_property(alloc, said, place.value),
+    }
+}
+
+/// Adds the first value of an entry that no field takes, with its place. Where none is found, nothing is added, and the answer is false.
+fn push_bad(
+    alloc: Global,
+    said: &mut String,
+    config: &Config,
+    script: &Value,
+    place: &Place<'_>,
+) -> Result<bool, AllocError> {
+    match place.list {
+        FaultyList::Neither => Ok(false),
+        FaultyList::Streams => match stream_type_of(config, place.value) {
+            Some(stream_type) => push_bad_extra(alloc, said, place.value, stream_type),
+            None => Ok(false),
+        },
+        FaultyList::Events => match event_type_of(config, script, place.value) {
+            Some((stream_type, event)) => {
+                push_bad_field(alloc, said, place.value, stream_type, event)
+            }
+            None => Ok(false),
+        },
     }
 }
 
@@ -134,7 +160,7 @@ fn text_in<'v>(entry: &'v Value, name: &str) -> Option<&'v str> {
     entry.get(name)?.as_str()
 }
 
-/// The names among which an unknown one is not, by their first characters.
+/// What was expected of an unknown name, and the names that there are, by their first characters.
 fn push_known(
     alloc: Global,
     said: &mut String,
@@ -145,14 +171,22 @@ fn push_known(
 ) -> Result<(), AllocError>
     ensures { OnOk result ((more : List ℕ) × (string_bytes said.new ≡ string_bytes said.old ++ more)) }
 {
-    let names = match (place.list, kind) {
-        (FaultyList::Streams, ScriptFaultKind::NoSuchStream) => type_names(alloc, config)?,
-        (FaultyList::Events, ScriptFaultKind::NoSuchStream) => stream_names(alloc, script)?,
+    let (expected, names) = match (place.list, kind) {
+        (FaultyList::Streams, ScriptFaultKind::NoSuchStream) => {
+            (": expected a data stream type", type_names(alloc, config)?)
+        }
+        (FaultyList::Events, ScriptFaultKind::NoSuchStream) => {
+            (": expected a stream", stream_names(alloc, script)?)
+        }
         (FaultyList::Events, ScriptFaultKind::NoSuchEvent) => {
-            event_names(alloc, type_of(config, script, place.value))?
+            (
+                "",
+                event_names(alloc, type_of(config, script, place.value))?,
+            )
         }
         _ => return Ok(()),
     };
+    said.push_str(expected)?;
     if names.is_empty() {
         return said.push_str(" (there are none)");
     }
@@ -199,12 +233,33 @@ fn type_of<'c>(config: &'c Config, script: &Value, event: &Value) -> Option<&'c 
     let stream = entries(script, "streams")
         .iter()
         .find(|entry| text_in(entry, "name") == Some(name))?;
+    stream_type_of(config, stream)
+}
+
+/// The type that a stream's entry names.
+fn stream_type_of<'c>(config: &'c Config, stream: &Value) -> Option<&'c StreamType> {
     let type_name = text_in(stream, "type")?;
     config
         .streams
         .as_slice()
         .iter()
         .find(|stream_type| stream_type.name.as_str() == type_name)
+}
+
+/// The type of an event that is traced, and that of its stream.
+fn event_type_of<'c>(
+    config: &'c Config,
+    script: &Value,
+    event: &Value,
+) -> Option<(&'c StreamType, &'c EventType)> {
+    let stream_type = type_of(config, script, event)?;
+    let name = text_in(event, "event")?;
+    let event_type = stream_type
+        .events
+        .as_slice()
+        .iter()
+        .find(|event_type| event_type.name.as_str() == name)?;
+    Some((stream_type, event_type))
 }
 
 fn entries<'v>(script: &'v Value, name: &str) -> &'v [Value] {

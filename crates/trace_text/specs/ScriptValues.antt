@@ -1,9 +1,12 @@
 -- The values of a script as the values of fields. A whole number is signed or unsigned as its field is; where no integer and no enumeration stands, it is
 -- signed only if it is negative. A text is its bytes in UTF-8, and a list the values of its elements. Nothing else is a value: no fraction, flag, null or
 -- object, and no number that 64 bits of its field's sign do not hold.
-use Rattle.std.specs.Prelude.{List, [], ◌∷◌, ◌++◌, Bool, true, false, Option, Some, None, option_map, option_and_then, ℕ, suc, slice_get}
+use Rattle.std.specs.Prelude.{◌≡◌, ◌<◌, List, [], ◌∷◌, ◌++◌, Bool, true, false, Option, Some, None, option_map, option_and_then, is_some, ℕ, suc, slice_get}
+use Rattle.std.specs.Option.{option_map_or}
 use Rattle.serde_json.specs.Data.{Num, unsigned, negative, float, Data, null, boolean, number, string, array, object, Items, no_items, item}
 use Rattle.serde_json.specs.Find.{as_i64}
+use Rattle.serde_json.specs.View.{view}
+use Rattle.serde_json.specs.declared.value.Value.{Value}
 use Rattle.ctf_types.specs.declared.MemberType.{MemberType}
 use Rattle.ctf_types.specs.declared.MemberType.TheVariants.{Plain, Dyn}
 use Rattle.ctf_types.specs.Chain.{Chain, Leaf, Number, Labelled, ByteString}
@@ -89,3 +92,12 @@ values_from ms i before (item d ds) = option_and_then (λ v. values_from ms (suc
 
 abbrev pub members_values : List (List ℕ × MemberType) → Items → Option (List Datum)
 members_values ms ds = values_from ms 0 [] ds
+
+-- whether each item of a list is a value, and where the first one is that is none
+abbrev pub is_value_at : List (List ℕ × MemberType) → List Value → ℕ → Bool
+is_value_at ms items i = option_map_or (λ d. is_some (value_at (slice_get ms i) (view d))) (slice_get items i) true
+
+-- the first item of a list that is no value of the member where it stands; none where each is one
+abbrev pub IsFirstBad : List (List ℕ × MemberType) → List Value → Option ℕ → Type 0
+IsFirstBad ms items None = (i : ℕ) → is_value_at ms items i ≡ true
+IsFirstBad ms items (Some n) = (is_value_at ms items n ≡ false) × ((i : ℕ) → i < n → is_value_at ms items i ≡ true)

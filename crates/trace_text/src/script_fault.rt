@@ -34,9 +34,7 @@ impl fmt::Display for ScriptFaultKind {
             ScriptFaultKind::Shape => {
                 "not of a script's form: expected an object of its properties, each of its kind, and no others"
             }
-            ScriptFaultKind::NoSuchStream => {
-                "no such stream: expected the name of a stream, or of a data stream type"
-            }
+            ScriptFaultKind::NoSuchStream => "no stream or data stream type has this name",
             ScriptFaultKind::NoSuchEvent => {
                 "no such event record type: expected the name of one of the stream's type"
             }

@@ -34,7 +34,7 @@ pub(crate) fn structure_values(
 }
 
 /// The value of the member at this index, or of what is more than there are members.
-fn value_at(
+pub(crate) fn value_at(
     alloc: Global,
     structure: &StructType,
     index: usize,
