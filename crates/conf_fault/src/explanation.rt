@@ -96,7 +96,11 @@ fn push_standing(said: &mut String, found: &Found<'_>, kind: FaultKind) -> Resul
     if !found.is_there {
         return said.push_str("missing");
     }
-    match found.source.value_of(found.layer().at)? {
+    let at = found.layer().at;
+    if let Some(number) = found.source.number_at(at) {
+        return push_cut(said, number);
+    }
+    match found.source.value_of(at)? {
         Some(value) => push_cut(said, format!(in found.source.alloc; "{value}")?.as_str()),
         None => push_cut(said, "a value"),
     }

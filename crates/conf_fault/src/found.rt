@@ -1,6 +1,6 @@
 //! The walk along a fault's path over the text.
 
-use crate::layers::{Layer, holds_field_type};
+use crate::layers::{Layer, Layering, holds_field_type};
 use crate::source::Source;
 use conf_table::{Content, Place, class_place, content, entries};
 use conf_tree::Step;
@@ -42,8 +42,9 @@ impl<'t> Source<'t> {
             content: Some(Content::At(Place::Root)),
             is_there: true,
         };
+        let layering = Layering::of(*self)?;
         for index in 0..path.len() {
-            if !self.step(&mut found, &path[index], path.get(index + 1))? {
+            if !self.step(&layering, &mut found, &path[index], path.get(index + 1))? {
                 break;
             }
         }
@@ -53,6 +54,7 @@ impl<'t> Source<'t> {
     /// Goes one step further. False where nothing is there.
     fn step(
         &self,
+        layering: &Layering<'_>,
         found: &mut Found<'_>,
         step: &Step,
         next: Option<&Step>,
@@ -65,7 +67,7 @@ impl<'t> Source<'t> {
         };
         let inner = self.inside(found.layers.as_slice(), holder, step, next)?;
         let place = told.map_or(Place::Ignored, Content::place);
-        let layers = self.followed(inner, place)?;
+        let layers = layering.followed(inner, place)?;
         found.position = position;
         found.holder = holder;
         found.content = told;

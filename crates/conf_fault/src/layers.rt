@@ -4,6 +4,7 @@ use crate::source::Source;
 use conf_table::Place;
 use conf_tree::Step;
 use std::alloc::AllocError;
+use std::collections::BTreeMap;
 
 /// More values than a chain of aliases and bases in an accepted configuration can have.
 const MOST_LAYERS: usize = 4096;
@@ -27,19 +28,40 @@ pub(crate) fn holds_field_type(place: Place) -> bool {
         || place.admits(Place::StaticArray)
 }
 
-impl<'t> Source<'t> {
-    /// The values that these are laid over in turn, nearest first: aliases are followed, and bases.
+/// A configuration's text, and where its aliases of field types stand by their names.
+#[derive(Drop)]
+pub(crate) struct Layering<'t> {
+    source: Source<'t>,
+    aliases: BTreeMap<String, Layer>,
+}
+
+impl<'t> Layering<'t> {
+    /// Of equal names the last one counts.
+    pub(crate) fn of(source: Source<'t>) -> Result<Layering<'t>, AllocError> {
+        let mut aliases = BTreeMap::new(source.alloc);
+        if let Some(map) = source.property(&["$field-type-aliases"])? {
+            let members = source.children(map, b'{')?;
+            for member in members.iter() {
+                if let Some(name) = source.text_of(member.key)? {
+                    drop(aliases.insert(name, *member)?);
+                }
+            }
+        }
+        Ok(Layering { source, aliases })
+    }
+
+    /// Of these values the first, and those that it is laid over in turn: aliases are followed, and bases.
     pub(crate) fn followed(
         &self,
         layers: Vec<Layer>,
         place: Place,
     ) -> Result<Vec<Layer>, AllocError> {
         if !holds_field_type(place) {
-            return Ok(layers);
+            return self.of_one_kind(layers, place);
         }
-        let mut all = Vec::new(self.alloc);
+        let mut all = Vec::new(self.source.alloc);
         for layer in layers.iter() {
-            let is_member_alias = place == Place::Member && self.is(layer.at, b'"');
+            let is_member_alias = place == Place::Member && self.source.is(layer.at, b'"');
             if is_member_alias {
                 all.push(*layer)?;
             }
@@ -47,7 +69,33 @@ impl<'t> Source<'t> {
                 break;
             }
         }
-        Ok(all)
+        self.of_one_kind(all, place)
+    }
+
+    /// The first of these values, and those behind it up to the first of another kind: an object is laid over objects, a list over lists, and any
+    /// other value over nothing.
+    fn of_one_kind(&self, layers: Vec<Layer>, place: Place) -> Result<Vec<Layer>, AllocError> {
+        let mut kept: Vec<Layer> = Vec::new(self.source.alloc);
+        let mut kind = None;
+        for layer in layers.iter() {
+            let bracket = self.bracket(*layer, place);
+            if !kept.is_empty() && (kind.is_none() || bracket != kind) {
+                break;
+            }
+            kind = bracket;
+            kept.push(*layer)?;
+        }
+        Ok(kept)
+    }
+
+    /// The bracket of an object or a list. A member that is the name of an alias stands for an object.
+    fn bracket(&self, layer: Layer, place: Place) -> Option<u8> {
+        match self.source.text.get(layer.at) {
+            Some(b'"') if place == Place::Member => Some(b'{'),
+            Some(b'{') => Some(b'{'),
+            Some(b'[') => Some(b'['),
+            _ => None,
+        }
     }
 
     /// Adds a value and what it inherits from. False where nothing behind it counts any more.
@@ -58,13 +106,13 @@ impl<'t> Source<'t> {
             if hop.is_power_of_two() {
                 mark = layer.at;
             }
-            let next = if self.is(layer.at, b'"') {
+            let next = if self.source.is(layer.at, b'"') {
                 self.alias_at(layer.at)?
             } else {
                 all.push(layer)?;
-                let base = self.member(layer, "$inherit")?;
+                let base = self.source.member(layer, "$inherit")?;
                 if base.is_none() {
-                    return Ok(hop == 0 && self.is(layer.at, b'{'));
+                    return Ok(hop == 0 && self.source.is(layer.at, b'{'));
                 }
                 base
             };
@@ -83,16 +131,18 @@ impl<'t> Source<'t> {
 
     /// The alias that the text at a place names.
     fn alias_at(&self, at: usize) -> Result<Option<Layer>, AllocError> {
-        let Some(name) = self.text_of(at)? else {
+        let Some(name) = self.source.text_of(at)? else {
             return Ok(None);
         };
-        let alias = self.property(&["$field-type-aliases", name.as_str()])?;
+        let alias = self.aliases.get(name.as_str());
         Ok(alias.map(|alias| Layer {
             alias: Some(alias.key),
-            ..alias
+            ..*alias
         }))
     }
+}
 
+impl<'t> Source<'t> {
     /// The values one step into these, nearest first.
     pub(crate) fn inside(
         &self,

@@ -5,6 +5,7 @@ mod by_kind;
 mod expected;
 mod explanation;
 mod found;
+mod json_front;
 mod layers;
 mod line_column;
 mod named;

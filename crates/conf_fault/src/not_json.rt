@@ -4,9 +4,9 @@ ghost use Rattle.std.specs.Prelude.{◌≤◌, length, IfOk, OnOk, string_bytes}
 ghost use Rattle.conf_fault.specs.LineColumn.{IsPlaceIn};
 ghost use Rattle.conf_fault.specs.Explanation.{Adds, IsNotJson};
 
+use crate::json_front::longest_front;
 use crate::line_column::{LineColumn, line_column, push_place};
 use crate::source::Source;
-use serde_json::Value;
 use std::alloc::{AllocError, Global};
 use std::str;
 
@@ -24,7 +24,8 @@ pub(crate) fn push_not_json(source: Source<'_>, said: &mut String) -> Result<(),
 
 /// The place of the first byte with which a text is no longer the beginning of a JSON text, or of its end, where more has to follow.
 ///
-/// A byte of no whole character in UTF-8 is such a byte, and so are the bracket that opens a 128th level and the digit that makes a number too large for a float.
+/// A byte of no whole character in UTF-8 is such a byte, and so are the bracket that opens a 128th level, the last digit of a number too large for a
+/// float, and the backslash of half a character (`\ud800`).
 pub fn json_place(alloc: Global, text: &[u8]) -> Result<LineColumn, AllocError>
     ensures { IfOk result (IsPlaceIn text.now) }
 {
@@ -34,32 +35,6 @@ pub fn json_place(alloc: Global, text: &[u8]) -> Result<LineColumn, AllocError>
     };
     let at = longest_front(alloc, &text[..readable])?;
     Ok(line_column(text, at))
-}
-
-/// How many bytes the longest front of a text has with which a JSON text can begin. Each front of such a front is one too.
-fn longest_front(alloc: Global, text: &[u8]) -> Result<usize, AllocError>
-    ensures { IfOk result (λ most. most ≤ length text.now) }
-{
-    let mut least = 0usize;
-    let mut most = text.len();
-    while least < most {
-        let middle = most - (most - least) / 2;
-        if begins_json(alloc, &text[..middle])? {
-            least = middle;
-        } else {
-            most = middle - 1;
-        }
-    }
-    Ok(least)
-}
-
-/// Whether a text in UTF-8, perhaps without the end of its last character, is JSON or is cut short.
-fn begins_json(alloc: Global, text: &[u8]) -> Result<bool, AllocError> {
-    match Value::from_slice(alloc, text) {
-        Ok(_) => Ok(true),
-        Err(error) if error.is_memory() => Err(AllocError),
-        Err(error) => Ok(error.is_eof()),
-    }
 }
 
 /// Whether a text begins, behind empty lines, with a comment, with `---` or `%YAML`, or with a name and a colon, as `trace:`.

@@ -5,6 +5,7 @@ ghost use Rattle.std.specs.Prelude.{◌≤◌, length};
 use crate::layers::Layer;
 use serde_json::Value;
 use std::alloc::{AllocError, Global};
+use std::str;
 
 /// The text of a configuration.
 #[derive(Clone, Copy)]
@@ -34,6 +35,15 @@ impl<'t> Source<'t> {
             Ok(value) => Ok(Some(value)),
             Err(error) if error.is_memory() => Err(AllocError),
             Err(_) => Ok(None),
+        }
+    }
+
+    /// The number at a place, as it is written.
+    pub(crate) fn number_at(&self, at: usize) -> Option<&'t str> {
+        let text = self.text.get(at..)?;
+        match text.first() {
+            Some(b'-' | b'0'..=b'9') => str::from_utf8(&text[..value_length(text)]).ok(),
+            _ => None,
         }
     }
 
