@@ -1,8 +1,9 @@
 -- What is told of a fault, put together of what the calls say.
-use Rattle.std.proofs.Common.{◌≡◌, ◌≢◌, List, [], ◌∷◌, ◌++◌, ℕ, Bool, true, false, map, refl, sym, ap, subst, append-nil}
+use Rattle.std.proofs.Common.{◌≡◌, ◌≢◌, ◌<◌, ◌≤◌, ◌-◌, arith, decimal, length, take, List, [], ◌∷◌, ◌++◌, ℕ, Bool, true, false, map, refl, sym, ap, subst, append-nil}
 use Rattle.std.specs.Prelude.{not, Option, Some, None, MatchOption, Result, is_ok, OnOk, if◌then◌else◌, codes}
 use Rattle.std.specs.Borrow.{Bor}
 use Rattle.std.specs.Str.{bytes_eq}
+use Rattle.std.proofs.lemmas.Bool.Decides.{nat_tests}
 use Rattle.std.proofs.lemmas.Result.{on_ok_weaker}
 use Rattle.conf_table.specs.declared.place.Place.{Place}
 use Rattle.conf_table.specs.declared.words.Words.{Words}
@@ -17,7 +18,7 @@ use Rattle.conf_tree.specs.declared.fault_kind.FaultKind.TheVariants as kinds
 use Rattle.conf_tree.specs.declared.fault.ConfFault.{ConfFault}
 use Rattle.conf_fault.specs.Explanation.{Adds}
 use Rattle.conf_fault.specs.Expected.{classes_at, expected_words, listed}
-use Rattle.conf_fault.specs.Wanted.{IsChoice, IsHint, IsInRange, IsKnownName, IsNearestIf, IsOneOf, IsTold, IsToldOfKind, PathEnd, end_name, named_text, real_hint}
+use Rattle.conf_fault.specs.Wanted.{IsChoice, IsHint, IsInRange, IsKnownName, IsNearestIf, IsOneOf, IsTold, IsToldOfKind, PathEnd, end_name, few_listed, named_text, real_hint}
 use Rattle.conf_fault.proofs.Adding.{added, behind}
 
 abbrev pub texts : List (Bor (List ℕ)) → List (List ℕ)
@@ -39,13 +40,13 @@ chosen text words was mid now told e = (told.0 ++ real_hint text, (text, told.0,
 pub reals : (text : List ℕ) (b : Bool) → bytes_eq text (codes "real") ≡ b → real_hint (Some text) ≡ (if b then codes "; there are no real numbers" else [])
 reals text b e = ap (λ b. if b then codes "; there are no real numbers" else []) e
 
-pub known : (thing was s1 s2 s3 now : List ℕ) (text : Option (List ℕ)) (names : List (List ℕ)) → s1 ≡ was ++ (codes "the name of a " ++ (thing ++ codes " (there are ")) → s2 ≡ s1 ++ listed names → s3 ≡ s2 ++ codes ")"
+pub known : (thing was s1 s2 s3 now : List ℕ) (text : Option (List ℕ)) (names : List (List ℕ)) → s1 ≡ was ++ (codes "the name of a " ++ (thing ++ codes " (there are ")) → s2 ≡ s1 ++ few_listed names → s3 ≡ s2 ++ codes ")"
     → Adds (IsNearestIf text names) s3 now → Adds (IsKnownName thing) was now
 known thing was s1 s2 s3 now text names e f g near =
     let front = codes "the name of a " ++ (thing ++ codes " (there are ") in (
-      front ++ listed names ++ codes ")" ++ near.0,
+      front ++ few_listed names ++ codes ")" ++ near.0,
       (names, text, near.0, near.1, refl),
-      behind was s3 now (front ++ listed names ++ codes ")") near.0 (behind was s2 s3 (front ++ listed names) (codes ")") (behind was s1 s2 front (listed names) e f) g) near.2,
+      behind was s3 now (front ++ few_listed names ++ codes ")") near.0 (behind was s2 s3 (front ++ few_listed names) (codes ")") (behind was s1 s2 front (few_listed names) e f) g) near.2,
     )
 
 -- the names of rows, as the code and as the definition reads them
@@ -72,12 +73,13 @@ pub no_hint : (b : Bool) (text was : List ℕ) → b ≡ false → Adds (λ hint
 no_hint true text was e = absurd (cc)
 no_hint false text was e = ([], refl, sym (append-nil was))
 
-pub no_hint_of_others : (kind : FaultKind) (path : List Step) (was : List ℕ) → kind ≢ kinds.Missing → kind ≢ kinds.Unknown → kind ≢ kinds.BadName → Adds (IsHint kind path) was was
+pub no_hint_of_others : (kind : FaultKind) (path : List Step) (was : List ℕ) → kind ≢ kinds.Missing → kind ≢ kinds.Unknown → kind ≢ kinds.BadName → kind ≢ kinds.NameClash → Adds (IsHint kind path) was was
 unfolding IsHint
-no_hint_of_others kinds.Missing path was a b c = absurd (a refl)
-no_hint_of_others kinds.Unknown path was a b c = absurd (b refl)
-no_hint_of_others kinds.BadName path was a b c = absurd (c refl)
-no_hint_of_others _ path was a b c = ([], refl, sym (append-nil was))
+no_hint_of_others kinds.Missing path was a b c d = absurd (a refl)
+no_hint_of_others kinds.Unknown path was a b c d = absurd (b refl)
+no_hint_of_others kinds.BadName path was a b c d = absurd (c refl)
+no_hint_of_others kinds.NameClash path was a b c d = absurd (d refl)
+no_hint_of_others _ path was a b c d = ([], refl, sym (append-nil was))
 
 -- ---- what is told
 
@@ -119,3 +121,11 @@ told_by_kind fault end said e is = subst (λ (o : Option (List ℕ)). MatchOptio
 pub adds_by_kind : {T E : Type 0} (r : Result T E) (fault : ConfFault) (end : PathEnd) (was now : List ℕ) → named_text fault.kind (end_name fault.path) end.content ≡ None
     → OnOk r (Adds (IsToldOfKind fault.kind (end_name fault.path) end) was now) → OnOk r (Adds (IsTold fault end) was now)
 adds_by_kind r fault end was now e h = on_ok_weaker r (λ (adds : Adds (IsToldOfKind fault.kind (end_name fault.path) end) was now). (adds.0, told_by_kind fault end adds.0 e adds.1, adds.2)) h
+
+-- ---- names of which there are many
+
+pub few : (names : List (List ℕ)) → length names ≤ 20 → listed names ≡ few_listed names
+few names h = grind (arith, nat_tests)
+
+pub many : (names : List (List ℕ)) → 20 < length names → listed (take 20 names) ++ (codes " and " ++ decimal (length names - 20) ++ codes " more") ≡ few_listed names
+many names h = grind (arith, nat_tests)

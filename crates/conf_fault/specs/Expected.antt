@@ -10,6 +10,7 @@ use Rattle.conf_table.specs.declared.row.Entries.{Entries}
 use Rattle.conf_table.specs.Table.{entries_of, is_by_index}
 use Rattle.conf_table.specs.Words.{words_of}
 use Rattle.conf_table.specs.Classes.{ClassWord, admits_class, class_words}
+use Rattle.conf_fault.specs.Shown.{cut}
 
 unfoldable pub range_words : ℤ → ℤ → List ℕ
 range_words low high = codes "a whole number from " ++ (signed_decimal low ++ (codes " to " ++ signed_decimal high))
@@ -17,13 +18,13 @@ range_words low high = codes "a whole number from " ++ (signed_decimal low ++ (c
 unfoldable pub text_words : ℕ → List ℕ
 text_words most_bytes = codes "a text of " ++ (decimal most_bytes ++ codes " bytes at most, without control characters but newline and tab")
 
--- words, each as it is written
+-- words, each cut
 abbrev pub further_word : List ℕ → List ℕ
-further_word word = codes "`, `" ++ word
+further_word word = codes "`, `" ++ cut word
 
 unfoldable pub listed : List (List ℕ) → List ℕ
 listed [] = codes "none"
-listed (word ∷ words) = codes "`" ++ word ++ flat_map further_word words ++ codes "`"
+listed (word ∷ words) = codes "`" ++ cut word ++ flat_map further_word words ++ codes "`"
 
 -- the words of the classes that may stand at a position
 abbrev pub may_stand : Place → ClassWord → Bool

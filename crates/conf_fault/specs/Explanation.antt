@@ -1,6 +1,6 @@
 -- The explanation of a configuration's fault: where it stands in the text, the way to it, what stands there, and what was expected. Whatever it
 -- shows of the configuration, it stays on one line.
-use Rattle.std.specs.Prelude.{◌≡◌, ◌⊎◌, List, [], ◌∷◌, ◌++◌, ℕ, Option, Some, None, MatchOption, codes, string_bytes, decimal}
+use Rattle.std.specs.Prelude.{◌≡◌, ◌⊎◌, List, [], ◌∷◌, ◌++◌, ℕ, Option, Some, None, MatchOption, if◌then◌else◌, ◌==◌, codes, drop, encode_utf8, string_bytes, decimal}
 use Rattle.std.specs.List.{flat_map}
 use Rattle.conf_tree.specs.declared.step.Step.{Step}
 use Rattle.conf_tree.specs.declared.step.Step.TheVariants.{Key, Index}
@@ -8,7 +8,7 @@ use Rattle.conf_tree.specs.declared.fault.ConfFault.{ConfFault}
 use Rattle.conf_tree.specs.declared.fault_kind.FaultKind.{FaultKind}
 use Rattle.conf_tree.specs.declared.fault_kind.FaultKind.TheVariants.{NotJson, TooDeep, Unknown, InheritCycle, BadName, ReservedName, NameClash, ZeroSizeRecord, NoUuid, TwoOrders, OutOfMemory}
 use Rattle.conf_fault.specs.declared.line_column.LineColumn.{LineColumn}
-use Rattle.conf_fault.specs.LineColumn.{IsPlaceIn}
+use Rattle.conf_fault.specs.LineColumn.{IsPlaceAt, IsPlaceIn}
 use Rattle.conf_fault.specs.Shown.{cut, shown}
 use Rattle.conf_fault.specs.Wanted.{IsToldAndHinted}
 
@@ -65,9 +65,8 @@ IsStanding kind words = MatchOption (name_words kind) (IsValueWords words) (λ s
 -- of the kinds that are the same everywhere
 unfoldable pub fixed_words : FaultKind → Option (List ℕ)
 fixed_words TooDeep = Some (codes "at most 32 levels of objects and lists")
-fixed_words InheritCycle = Some (codes "a chain of aliases that ends: this alias inherits from itself")
+fixed_words InheritCycle = Some (codes "a chain of aliases that ends: this one leads into a circle")
 fixed_words ReservedName = Some (codes "a name that the metadata language does not use itself")
-fixed_words NameClash = Some (codes "a name that nothing else in this structure has")
 fixed_words ZeroSizeRecord = Some (codes "an integer, an enumeration or a string in its contexts or its payload")
 fixed_words NoUuid = Some (codes "a UUID of the trace type, or with `auto` one from the caller (--uuid of `metadata` and `trace`)")
 fixed_words TwoOrders = Some (codes "only one of `trace-byte-order` and `native-byte-order`")
@@ -95,13 +94,25 @@ pub record IsPlaced (text : List ℕ) (fault : ConfFault) (said : List ℕ) : Ty
 abbrev pub IsYamlHint : List ℕ → Type 0
 IsYamlHint hint = (hint ≡ []) ⊎ (hint ≡ codes "; this looks like YAML, of which tools/yaml_to_json makes JSON")
 
--- a text that is no JSON
+-- a character, or the mark that tells the order of bytes
+abbrev pub character_words : ℕ → List ℕ
+character_words c = if c == 65279 then codes "a byte order mark" else codes "`" ++ encode_utf8 c ++ codes "`"
+
+-- what stands at the front of some bytes: their end, their first character, or a byte that begins none
+abbrev pub IsFoundWords : List ℕ → List ℕ → Type 0
+IsFoundWords bytes words = ((bytes ≡ []) × (words ≡ codes "the end of the text"))
+    ⊎ (((c : ℕ) × (others : List ℕ) × (bytes ≡ encode_utf8 c ++ others) × (words ≡ character_words c)) ⊎ (words ≡ codes "a byte that is no UTF-8"))
+
+-- a text that is no JSON: a place in it, and what stands just there
 pub record IsNotJson (text said : List ℕ) : Type 0 where
-  pub place : List ℕ
+  pub at : ℕ
+  pub place : LineColumn
+  pub found : List ℕ
   pub hint : List ℕ
-  pub lies : IsPlaceWords text place
+  pub lies : IsPlaceAt text at place
+  pub stands : IsFoundWords (drop at text) found
   pub looks : IsYamlHint hint
-  pub is : said ≡ place ++ codes "not JSON: expected one JSON value in UTF-8" ++ hint
+  pub is : said ≡ place_words place ++ codes "not JSON: found " ++ found ++ codes ": expected one JSON value in UTF-8" ++ hint
 
 -- what is said of a fault of a text, by its kind
 unfoldable pub IsSaidOf : FaultKind → List ℕ → ConfFault → List ℕ → Type 0

@@ -14,6 +14,10 @@ line_behind before = 1 + count_by is_newline before
 unfoldable pub column_behind : List ℕ → ℕ
 column_behind before = 1 + suffix_len (λ b. not (is_newline b)) before
 
+-- the place of the byte of this index in the text, or of its end
+abbrev pub IsPlaceAt : List ℕ → ℕ → LineColumn → Type 0
+IsPlaceAt text at place = (at ≤ length text) × (place.line ≡ line_behind (take at text)) × (place.column ≡ column_behind (take at text))
+
 -- the place of a byte of the text, or of its end
 abbrev pub IsPlaceIn : List ℕ → LineColumn → Type 0
-IsPlaceIn text place = (at : ℕ) × (at ≤ length text) × (place.line ≡ line_behind (take at text)) × (place.column ≡ column_behind (take at text))
+IsPlaceIn text place = (at : ℕ) × IsPlaceAt text at place

@@ -1,6 +1,6 @@
 -- What was expected where a fault stands, by the fault's kind: what is told of it, and behind that a hint or none. Kind and path are the fault's own;
 -- where in the table the way over the text ends is not said, so that what is told holds of some end.
-use Rattle.std.specs.Prelude.{◌≡◌, ◌⊎◌, ℕ, ◌+◌, ◌-◌, ◌/◌, ◌<◌, ◌≤◌, min, All, List, [], ◌++◌, reverse, ◌==◌, Option, None, Some, MatchOption, Contains, Bool, true, false, not, unwrap_or, length, map, slice_get, if◌then◌else◌, codes, string_bytes, decimal}
+use Rattle.std.specs.Prelude.{◌≡◌, ◌⊎◌, ℕ, ◌+◌, ◌-◌, ◌/◌, ◌<◌, ◌≤◌, min, All, List, [], ◌++◌, reverse, ◌==◌, Option, None, Some, MatchOption, Contains, Bool, true, false, not, ◌&&◌, nat_le, nat_lt, unwrap_or, length, take, map, slice_get, if◌then◌else◌, codes, string_bytes, decimal}
 use Rattle.std.specs.Option.{option_and_then}
 use Rattle.std.specs.List.{list_any, position_from, zip}
 use Rattle.std.specs.Str.{bytes_eq}
@@ -17,6 +17,7 @@ use Rattle.conf_table.specs.Table.{entries_of, rows_of}
 use Rattle.conf_table.specs.Words.{words_of}
 use Rattle.conf_fault.specs.declared.found.Found.{Found}
 use Rattle.conf_fault.specs.Expected.{classes_at, expected_words, listed}
+use Rattle.conf_fault.specs.Shown.{cut}
 
 -- where the way ends: what the table says of a value there, the position at which it stands, and what holds it
 pub record PathEnd : Type 0 where
@@ -45,13 +46,17 @@ can_be_whole (Some (contents.Level high)) = true
 can_be_whole (Some (contents.WholeOrText low high most_bytes)) = true
 can_be_whole _ = false
 
--- of a value out of range at a place
-unfoldable pub range_text : Option Content → Option (List ℕ)
-range_text (Some (contents.At places.Mappings)) = Some (codes "one label at least")
-range_text (Some (contents.At places.Ranges)) = Some (codes "one range at least, under a label without control characters but newline and tab")
-range_text (Some (contents.At places.Range)) = Some (codes "a range inside the integer's numbers, the lowest first")
-range_text (Some (contents.At places.DynamicElementType)) = Some (codes "an element with bits")
-range_text _ = None
+-- a control character but newline and tab
+abbrev pub is_control : ℕ → Bool
+is_control b = nat_lt b 32 && (not (b == 10) && not (b == 9))
+
+-- of a value out of range at a place, or of a label whose name is no text
+unfoldable pub range_text : List ℕ → Option Content → Option (List ℕ)
+range_text name (Some (contents.At places.Mappings)) = Some (codes "one label at least")
+range_text name (Some (contents.At places.Ranges)) = Some (if list_any is_control name then codes "a label without control characters but newline and tab" else codes "one range at least")
+range_text name (Some (contents.At places.Range)) = Some (codes "a range inside the integer's numbers, the lowest first")
+range_text name (Some (contents.At places.DynamicElementType)) = Some (codes "an element with bits")
+range_text name _ = None
 
 -- the text of a kind, by the name of the last step
 unfoldable pub named_text : FaultKind → List ℕ → Option Content → Option (List ℕ)
@@ -62,7 +67,8 @@ named_text kinds.NoClock name content = if bytes_eq name (codes "$default-clock-
 named_text kinds.TimestampSize name content = Some (if bytes_eq name (codes "timestamp-field-type")
     then codes "a field of 8 to 64 bits, fewer than 64 only beside the packet's beginning timestamp, or the feature off"
     else codes "a field of 64 bits, or the feature off")
-named_text kinds.OutOfRange name content = if bytes_eq name (codes "$is-default") then Some (codes "true at one data stream type at most") else range_text content
+named_text kinds.OutOfRange name content = if bytes_eq name (codes "$is-default") then Some (codes "true at one data stream type at most") else range_text name content
+named_text kinds.NameClash name content = Some (codes "a name that nothing else in this structure has")
 named_text kinds.NotWhole name content = if can_be_whole content then None else Some (codes "a whole number of 64 bits, without fraction or exponent")
 named_text _ name content = None
 
@@ -83,19 +89,27 @@ common word other = unwrap_or (first_difference word other) (min (length word) (
 abbrev pub likeness : List ℕ → List ℕ → ℕ
 likeness word other = min (common word other + common (reverse word) (reverse other)) (min (length word) (length other))
 
--- of some words the one that is nearest to a text: more than half of the text is alike in it, and no word is more like the text; or none, where of no
--- word that much is alike
-abbrev pub IsNearestOf : List ℕ → List (List ℕ) → Option (List ℕ) → Type 0
-IsNearestOf text words None = All (λ w. likeness text w ≤ length text / 2) words
-IsNearestOf text words (Some word) = Contains words word × (length text / 2 < likeness text word) × All (λ w. likeness text w ≤ likeness text word) words
+-- how many bytes longer or shorter one word is than another
+abbrev pub gap : List ℕ → List ℕ → ℕ
+gap word other = (length word - length other) + (length other - length word)
+
+-- no more of a text is alike in a word than so many bytes, and where so many are, the word is at least so much longer or shorter than the text
+abbrev pub IsNoNearer : List ℕ → ℕ → ℕ → List ℕ → Type 0
+IsNoNearer text most least word = (likeness text word < most) ⊎ ((likeness text word ≡ most) × (least ≤ gap text word))
+
+-- of some words the one that is nearest to a text: of the text more bytes than the floor are alike in it, no word is more like the text, and of those
+-- that are as much like it none has a length that is nearer; or none, where of no word that much is alike
+abbrev pub IsNearestOf : ℕ → List ℕ → List (List ℕ) → Option (List ℕ) → Type 0
+IsNearestOf floor text words None = All (λ w. likeness text w ≤ floor) words
+IsNearestOf floor text words (Some word) = Contains words word × (floor < likeness text word) × All (IsNoNearer text (likeness text word) (gap text word)) words
 
 abbrev pub nearest_words : Option (List ℕ) → List ℕ
 nearest_words None = []
-nearest_words (Some word) = codes "; the nearest is `" ++ word ++ codes "`"
+nearest_words (Some word) = codes "; the nearest is `" ++ cut word ++ codes "`"
 
--- the nearest of some words to a text, or none
+-- the nearest of some words to a text, in which more than half of it is alike, or none
 abbrev pub IsNearest : List ℕ → List (List ℕ) → List ℕ → Type 0
-IsNearest text words said = (word : Option (List ℕ)) × IsNearestOf text words word × (said ≡ nearest_words word)
+IsNearest text words said = (word : Option (List ℕ)) × IsNearestOf (length text / 2) text words word × (said ≡ nearest_words word)
 
 -- the same, where a text stands
 abbrev pub IsNearestIf : Option (List ℕ) → List (List ℕ) → List ℕ → Type 0
@@ -120,10 +134,14 @@ IsInRange (Some (contents.Word choice)) position said = IsChoice (words_of choic
 IsInRange (Some contents.Class) position said = IsChoice (classes_at position) said
 IsInRange content position said = said ≡ expected_words content position
 
+-- the first 20 of some names, and how many more there are
+abbrev pub few_listed : List (List ℕ) → List ℕ
+few_listed names = if nat_le (length names) 20 then listed names else listed (take 20 names) ++ (codes " and " ++ decimal (length names - 20) ++ codes " more")
+
 -- the name of a thing, with those that there are, and the nearest of them or none; which text stands there is not said
 abbrev pub IsKnownName : List ℕ → List ℕ → Type 0
 IsKnownName thing said = (names : List (List ℕ)) × (text : Option (List ℕ)) × (nearest : List ℕ) × IsNearestIf text names nearest
-    × (said ≡ codes "the name of a " ++ (thing ++ codes " (there are ") ++ listed names ++ codes ")" ++ nearest)
+    × (said ≡ codes "the name of a " ++ (thing ++ codes " (there are ") ++ few_listed names ++ codes ")" ++ nearest)
 
 abbrev pub alias_thing : Option Content → List ℕ
 alias_thing (Some (contents.Level high)) = codes "log level alias"
@@ -133,13 +151,22 @@ alias_thing _ = codes "field type alias"
 abbrev pub IsRoom : List ℕ → Type 0
 IsRoom said = (said ≡ codes "room for the largest number that it must hold") ⊎ ((largest : ℕ) × (said ≡ codes "room for the number " ++ decimal largest))
 
--- how many entries there can be at a place, or, where the table sets no limit there, how much a configuration can hold
-abbrev pub most_words : Option ℕ → List ℕ
-most_words (Some most) = decimal most ++ codes " entries at most"
-most_words None = codes "at most 8 arrays in one another, 1048576 elements, and 4096 values with what is inherited"
+-- how much a value at a place can hold where the table sets no limit to its entries: elements of arrays are counted where no array is around them
+unfoldable pub size_words : Place → List ℕ
+size_words places.Mappings = codes "at most 1024 ranges"
+size_words places.Ranges = codes "a label of at most 4096 bytes"
+size_words places.MemberType = codes "at most 8 arrays in one another, 1048576 elements, and 4096 values with what is inherited"
+size_words places.DynamicElementType = codes "at most 8 arrays in one another, 1048576 elements, and 4096 values with what is inherited"
+size_words places.IdentifierFeature = codes "at most 8 arrays in one another, 1048576 elements, and 4096 values with what is inherited"
+size_words _ = codes "at most 4096 values with what is inherited"
+
+-- how many entries there can be at a place, or how much it can hold
+abbrev pub most_words : Place → Option ℕ → List ℕ
+most_words place (Some most) = decimal most ++ codes " entries at most"
+most_words place None = size_words place
 
 unfoldable pub limit_words : Option Content → Place → List ℕ
-limit_words (Some (contents.At place)) position = most_words (option_and_then (λ e. e.most) (entries_of place))
+limit_words (Some (contents.At place)) position = most_words place (option_and_then (λ e. e.most) (entries_of place))
 limit_words content position = expected_words content position
 
 -- the names of an object's rows
@@ -161,13 +188,25 @@ IsToldOfKind _ name end said = said ≡ expected_words end.content end.position
 abbrev pub is_hyphen : ℕ → Bool
 is_hyphen b = b == 45
 
--- of a property that is missing, perhaps, where it would be outermost
-abbrev pub IsMissingHint : List Step → List ℕ → Type 0
-IsMissingHint path hint = (hint ≡ []) ⊎ ((length path ≡ 1) × (hint ≡ codes "; this looks like a configuration of barectf 2, and ctftrace reads those of barectf 3"))
+-- a property with a name that is like another, of which at least half is alike in it; which names the object has that it cannot have is not said
+abbrev pub IsLikeHint : List ℕ → List ℕ → Type 0
+IsLikeHint name hint = (names : List (List ℕ)) × (other : List ℕ) × IsNearestOf ((length name - 1) / 2) name names (Some other) × (hint ≡ codes "; there is `" ++ cut other ++ codes "`")
+
+-- of a property that is missing, perhaps: where it would be outermost, and where a property has a name like it
+abbrev pub IsMissingHint : List Step → List ℕ → List ℕ → Type 0
+IsMissingHint path name hint = (hint ≡ []) ⊎ (((length path ≡ 1) × (hint ≡ codes "; this looks like a configuration of barectf 2, and ctftrace reads those of barectf 3")) ⊎ IsLikeHint name hint)
+
+-- of a name that is taken, perhaps: by a member that a packet context has itself, or for the length of a dynamic array
+abbrev pub IsClashHint : List ℕ → List ℕ → Type 0
+IsClashHint name hint = (hint ≡ [])
+    ⊎ ((hint ≡ codes "; a packet context has `packet_size`, `content_size`, `timestamp_begin`, `timestamp_end`, `events_discarded` and `packet_seq_num` itself, with its features on or off")
+    ⊎ ((hint ≡ codes "; a dynamic array `x` takes `__x_len` too")
+    ⊎ (hint ≡ codes "; a dynamic array `" ++ cut name ++ codes "` takes `" ++ cut (codes "__" ++ name ++ codes "_len") ++ codes "` too")))
 
 -- a hint, by the kind and the name of the last step
 unfoldable pub IsHint : FaultKind → List Step → List ℕ → Type 0
-IsHint kinds.Missing path hint = IsMissingHint path hint
+IsHint kinds.Missing path hint = IsMissingHint path (end_name path) hint
+IsHint kinds.NameClash path hint = IsClashHint (end_name path) hint
 IsHint kinds.Unknown path hint = hint ≡ (if bytes_eq (end_name path) (codes "$include") then codes "; tools/yaml_to_json puts in what `$include` names" else [])
 IsHint kinds.BadName path hint = hint ≡ (if list_any is_hyphen (end_name path) then codes "; a hyphen stands in no name, `_` does" else [])
 IsHint _ path hint = hint ≡ []

@@ -2,15 +2,17 @@
 
 ghost use Rattle.std.specs.Prelude.{◌≡◌, ◌++◌, IfOk, OnOk, Some, map, string_bytes};
 ghost use Rattle.std.specs.Option.{option_and_then, option_copied};
+ghost use Rattle.std.specs.List.{list_any};
 ghost use Rattle.conf_table.specs.Table.{entries_of};
 ghost use Rattle.conf_fault.specs.Explanation.{Adds, IsWanted, fixed_words, name_words};
-ghost use Rattle.conf_fault.specs.Wanted.{IsChoice, IsHint, IsInRange, IsKnownName, IsMissingHint, IsOneOf, IsTold, IsToldAndHinted, IsToldOfKind, alias_thing, can_be_whole, end_name as name_of_end, end_of, limit_words, most_words, named_text, names_of, range_text};
+ghost use Rattle.conf_fault.specs.Wanted.{IsChoice, IsClashHint, IsHint, IsInRange, IsKnownName, IsMissingHint, IsOneOf, IsTold, IsToldAndHinted, IsToldOfKind, alias_thing, can_be_whole, end_name as name_of_end, end_of, is_control, limit_words, most_words, named_text, names_of, range_text, size_words};
 
-use crate::expected::{classes_at, push_expected, push_nearest, push_words};
+use crate::expected::{classes_at, nearest, push_expected, push_nearest, push_words};
 use crate::found::Found;
 use crate::named::{push_known, push_largest_number};
+use crate::shown::push_cut;
 use crate::source::Source;
-use conf_table::{Content, Place, entries, rows, words_in};
+use conf_table::{Content, Place, content, entries, rows, words_in};
 use conf_tree::FaultKind::{self, *};
 use conf_tree::{ConfFault, Step};
 use std::alloc::AllocError;
@@ -99,14 +101,11 @@ pub(crate) fn kind_words(kind: FaultKind) -> (Option<&'static str>, Option<&'sta
             Some("reserved word"),
             Some("a name that the metadata language does not use itself"),
         ),
-        NameClash => (
-            Some("name is taken"),
-            Some("a name that nothing else in this structure has"),
-        ),
+        NameClash => (Some("name is taken"), None),
         TooDeep => (None, Some("at most 32 levels of objects and lists")),
         InheritCycle => (
             None,
-            Some("a chain of aliases that ends: this alias inherits from itself"),
+            Some("a chain of aliases that ends: this one leads into a circle"),
         ),
         ZeroSizeRecord => (
             None,
@@ -154,7 +153,8 @@ fn words_here(kind: FaultKind, name: &str, content: Option<Content>) -> Option<&
         ),
         TimestampSize => Some("a field of 64 bits, or the feature off"),
         OutOfRange if name == "$is-default" => Some("true at one data stream type at most"),
-        OutOfRange => range_words(content),
+        OutOfRange => range_words(name, content),
+        NameClash => Some("a name that nothing else in this structure has"),
         NotWhole if !is_whole(content) => Some(
             "a whole number of 64 bits, without fraction or exponent",
         ),
@@ -164,18 +164,28 @@ fn words_here(kind: FaultKind, name: &str, content: Option<Content>) -> Option<&
 
 /// What is expected at the places where what is out of range is no number and no word.
 #[tactic(auto, unfolding(crate::specs::Wanted::range_text))]
-fn range_words(content: Option<Content>) -> Option<&'static str>
-    ensures { option_copied result ≡ range_text content }
+fn range_words(name: &str, content: Option<Content>) -> Option<&'static str>
+    ensures { option_copied result ≡ range_text name.now content }
 {
     match content? {
         Content::At(Place::Mappings) => Some("one label at least"),
-        Content::At(Place::Ranges) => Some(
-            "one range at least, under a label without control characters but newline and tab",
+        Content::At(Place::Ranges) if has_control(name) => Some(
+            "a label without control characters but newline and tab",
         ),
+        Content::At(Place::Ranges) => Some("one range at least"),
         Content::At(Place::Range) => Some("a range inside the integer's numbers, the lowest first"),
         Content::At(Place::DynamicElementType) => Some("an element with bits"),
         _ => None,
     }
+}
+
+/// Whether a text has a control character but newline and tab.
+fn has_control(text: &str) -> bool
+    ensures { result ≡ list_any is_control text.now }
+{
+    text.as_bytes()
+        .iter()
+        .any(|byte| *byte < 32 && *byte != b'\n' && *byte != b'\t')
 }
 
 /// Whether a value of this content can be a whole number.
@@ -255,15 +265,27 @@ fn push_limit(said: &mut String, found: &Found<'_>) -> Result<(), AllocError>
 }
 
 fn push_most(said: &mut String, found: &Found<'_>, place: Place) -> Result<(), AllocError>
-    ensures { OnOk result (string_bytes said.new ≡ string_bytes said.old ++ most_words (option_and_then (λ e. e.most) (entries_of place))) }
+    ensures { OnOk result (string_bytes said.new ≡ string_bytes said.old ++ most_words place (option_and_then (λ e. e.most) (entries_of place))) }
 {
     match entries(place).and_then(|entries| entries.most) {
         Some(most) => said.push_str(format!(in found.source.alloc;
             "{most} entries at most"
         )?.as_str()),
-        None => said.push_str(
+        None => said.push_str(size_words(place)),
+    }
+}
+
+/// What a value can hold at most where the table sets no limit to its entries.
+#[tactic(auto, unfolding(crate::specs::Wanted::size_words))]
+fn size_words(place: Place) -> &'static str
+    ensures { result.now ≡ size_words place }
+{
+    match place {
+        Place::Mappings => "at most 1024 ranges",
+        Place::Ranges => "a label of at most 4096 bytes",
+        Place::MemberType | Place::DynamicElementType | Place::IdentifierFeature =>
             "at most 8 arrays in one another, 1048576 elements, and 4096 values with what is inherited",
-        ),
+        _ => "at most 4096 values with what is inherited",
     }
 }
 
@@ -278,7 +300,8 @@ fn push_hint(
     ensures { OnOk result (Adds (IsHint fault.now.kind fault.now.path) (string_bytes said.old) (string_bytes said.new)) }
 {
     match fault.kind {
-        Missing => push_missing_hint(said, found, fault.path.as_slice()),
+        Missing => push_missing_hint(said, found, fault.path.as_slice(), name),
+        NameClash => push_clash_hint(said, found.source, fault.path.as_slice(), name),
         Unknown => {
             if name != "$include" {
                 return Ok(());
@@ -295,15 +318,75 @@ fn push_hint(
     }
 }
 
-fn push_missing_hint(said: &mut String, found: &Found<'_>, path: &[Step]) -> Result<(), AllocError>
-    ensures { OnOk result (Adds (IsMissingHint path.now) (string_bytes said.old) (string_bytes said.new)) }
+fn push_missing_hint(
+    said: &mut String,
+    found: &Found<'_>,
+    path: &[Step],
+    name: &str,
+) -> Result<(), AllocError>
+    ensures { OnOk result (Adds (IsMissingHint path.now name.now) (string_bytes said.old) (string_bytes said.new)) }
 {
     if path.len() == 1 && is_of_barectf_2(found.source)? {
         return said.push_str(
             "; this looks like a configuration of barectf 2, and ctftrace reads those of barectf 3",
         );
     }
-    Ok(())
+    let unknown = unknown_names(found)?;
+    let words: Vec<&str> = unknown
+        .iter()
+        .map(|name| name.as_str())
+        .collect(found.source.alloc)?;
+    let Some(word) = nearest(name, words.as_slice(), name.len().saturating_sub(1) / 2) else {
+        return Ok(());
+    };
+    said.push_str("; there is `")?;
+    push_cut(said, word)?;
+    said.push_str("`")
+}
+
+/// The properties of an object that it cannot have.
+fn unknown_names(found: &Found<'_>) -> Result<Vec<String>, AllocError> {
+    let mut unknown = Vec::new(found.source.alloc);
+    for layer in found.layers.iter() {
+        let names = found.source.names(*layer)?;
+        let mut others: Vec<String> = names
+            .into_iter()
+            .filter(|name| content(found.holder, name.as_str()).is_none())
+            .collect(found.source.alloc)?;
+        unknown.append(&mut others)?;
+    }
+    Ok(unknown)
+}
+
+/// Adds whose the name is where the list of members does not show it.
+fn push_clash_hint(
+    said: &mut String,
+    source: Source<'_>,
+    path: &[Step],
+    name: &str,
+) -> Result<(), AllocError>
+    ensures { OnOk result (Adds (IsClashHint name.now) (string_bytes said.old) (string_bytes said.new)) }
+{
+    if let [.., Step::Key(list), Step::Index(_), Step::Key(_)] = path
+        && list.as_str() == "packet-context-field-type-extra-members"
+    {
+        return said.push_str(
+            "; a packet context has `packet_size`, `content_size`, `timestamp_begin`, `timestamp_end`, `events_discarded` and `packet_seq_num` itself, with its features on or off",
+        );
+    }
+    if name.starts_with("__") && name.ends_with("_len") {
+        return said.push_str("; a dynamic array `x` takes `__x_len` too");
+    }
+    let length = format!(in source.alloc; "__{name}_len")?;
+    let list = source.find(&path[..path.len().saturating_sub(2)])?;
+    if !list.has_entry(length.as_str())? {
+        return Ok(());
+    }
+    said.push_str("; a dynamic array `")?;
+    push_cut(said, name)?;
+    said.push_str("` takes `")?;
+    push_cut(said, length.as_str())?;
+    said.push_str("` too")
 }
 
 /// Whether the configuration has a property of barectf 2.

@@ -1,11 +1,12 @@
 //! What the table expects of a value, in words, and the word among those allowed that is most like one that is not.
 
-ghost use Rattle.std.specs.Prelude.{◌≡◌, ◌++◌, IfOk, OnOk, map, option_map, reverse, string_bytes};
+ghost use Rattle.std.specs.Prelude.{◌≡◌, ◌++◌, ◌<◌, ◌⊎◌, ◌↔◌, IfOk, IsTrue, OnOk, map, option_map, reverse, string_bytes};
 ghost use Rattle.conf_fault.specs.Explanation.{Adds};
 ghost use Rattle.conf_fault.specs.Expected.{classes_at as words_of_classes_at, described as words_of_place, expected_words, holder_words as words_of_holder, listed, range_words, text_words};
-ghost use Rattle.conf_fault.specs.Wanted.{IsNearest, IsNearestOf, first_difference, likeness};
+ghost use Rattle.conf_fault.specs.Wanted.{IsNearest, IsNearestOf, few_listed, first_difference, gap, likeness};
 
 use crate::found::Found;
+use crate::shown::push_cut;
 use conf_table::{Content, Entries, Keys, Place, class_words, entries, words_in};
 use std::alloc::{AllocError, Global};
 
@@ -64,7 +65,7 @@ fn push_text(alloc: Global, said: &mut String, most_bytes: u64) -> Result<(), Al
     )?.as_str())
 }
 
-/// Adds words, each as it is written.
+/// Adds words, each cut.
 pub(crate) fn push_words(said: &mut String, words: &[&str]) -> Result<(), AllocError>
     ensures { OnOk result (string_bytes said.new ≡ string_bytes said.old ++ listed (map (λ w. w.now) words.now)) }
 {
@@ -72,40 +73,74 @@ pub(crate) fn push_words(said: &mut String, words: &[&str]) -> Result<(), AllocE
         return said.push_str("none");
     };
     said.push_str("`")?;
-    said.push_str(*first)?;
+    push_cut(said, *first)?;
     for word in others {
         said.push_str("`, `")?;
-        said.push_str(*word)?;
+        push_cut(said, *word)?;
     }
     said.push('`')
+}
+
+/// The most names that are listed.
+const MOST_NAMES: usize = 20;
+
+/// Adds the first of some names, and how many more there are.
+pub(crate) fn push_names(said: &mut String, alloc: Global, names: &[&str]) -> Result<(), AllocError>
+    ensures { OnOk result (string_bytes said.new ≡ string_bytes said.old ++ few_listed (map (λ n. n.now) names.now)) }
+{
+    if names.len() <= MOST_NAMES {
+        return push_words(said, names);
+    }
+    push_words(said, &names[..MOST_NAMES])?;
+    let more = names.len() - MOST_NAMES;
+    said.push_str(format!(in alloc; " and {more} more")?.as_str())
 }
 
 /// Adds the word that is nearest to a text, if there is one.
 pub(crate) fn push_nearest(said: &mut String, text: &str, words: &[&str]) -> Result<(), AllocError>
     ensures { OnOk result (Adds (IsNearest text.now (map (λ w. w.now) words.now)) (string_bytes said.old) (string_bytes said.new)) }
 {
-    let Some(word) = nearest(text, words) else {
+    let Some(word) = nearest(text, words, text.len() / 2) else {
         return Ok(());
     };
     said.push_str("; the nearest is `")?;
-    said.push_str(word)?;
+    push_cut(said, word)?;
     said.push('`')
 }
 
-/// The word that is most like a text, the first of several, where more than half of the text is alike in it.
-fn nearest<'w>(text: &str, words: &[&'w str]) -> Option<&'w str>
-    ensures { IsNearestOf text.now (map (λ w. w.now) words.now) (option_map (λ w. w.now) result) }
+/// The word of which more bytes than the floor are alike with a text, and most, and among several such that whose length differs least.
+pub(crate) fn nearest<'w>(text: &str, words: &[&'w str], floor: usize) -> Option<&'w str>
+    ensures { IsNearestOf floor text.now (map (λ w. w.now) words.now) (option_map (λ w. w.now) result) }
 {
     let mut nearest = None;
-    let mut most = text.len() / 2;
+    let mut most = floor;
+    let mut least = 0usize;
     for word in words {
         let alike = likeness(text.as_bytes(), word.as_bytes());
-        if alike > most {
+        let gap = gap(text, *word);
+        if is_nearer(alike, gap, most, least) {
             most = alike;
+            least = gap;
             nearest = Some(*word);
         }
     }
     nearest
+}
+
+/// Whether a word with so many bytes alike and such a gap is nearer than the best so far.
+fn is_nearer(alike: usize, gap: usize, most: usize, least: usize) -> bool
+    ensures { IsTrue result ↔ ((most < alike) ⊎ ((alike ≡ most) × (gap < least))) }
+{
+    alike > most || (alike == most && gap < least)
+}
+
+/// How many bytes longer or shorter one word is than another.
+fn gap(word: &str, other: &str) -> usize
+    ensures { result ≡ gap word.now other.now }
+{
+    let longer = word.len().saturating_sub(other.len());
+    let shorter = other.len().saturating_sub(word.len());
+    longer + shorter
 }
 
 /// How much of two words is alike, in bytes: what they have in common at their beginnings and at their ends.

@@ -27,6 +27,16 @@ impl<'t> Found<'t> {
     pub(crate) fn layer(&self) -> Layer {
         self.layers.first().copied().unwrap_or_default()
     }
+
+    /// Whether the members lists there have an entry of this name.
+    pub(crate) fn has_entry(&self, name: &str) -> Result<bool, AllocError> {
+        for list in self.layers.iter() {
+            if self.source.entry(*list, 0, name)?.is_some() {
+                return Ok(true);
+            }
+        }
+        Ok(false)
+    }
 }
 
 impl<'t> Source<'t> {

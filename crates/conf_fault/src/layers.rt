@@ -187,7 +187,13 @@ impl<'t> Source<'t> {
         Ok(found)
     }
 
-    fn entry(&self, list: Layer, index: usize, name: &str) -> Result<Option<Layer>, AllocError> {
+    /// The entry at an index of a list, where it has this name, or else the first one that has.
+    pub(crate) fn entry(
+        &self,
+        list: Layer,
+        index: usize,
+        name: &str,
+    ) -> Result<Option<Layer>, AllocError> {
         let items = self.children(list, b'[')?;
         for item in items.get(index).into_iter().chain(items.iter()) {
             if self.member(*item, name)?.is_some() {

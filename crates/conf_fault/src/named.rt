@@ -4,7 +4,7 @@ ghost use Rattle.std.specs.Prelude.{OnOk, string_bytes};
 ghost use Rattle.conf_fault.specs.Explanation.{Adds};
 ghost use Rattle.conf_fault.specs.Wanted.{IsKnownName, IsRoom};
 
-use crate::expected::{push_nearest, push_words};
+use crate::expected::{push_names, push_nearest};
 use crate::found::Found;
 use crate::source::Source;
 use conf_tree::Step;
@@ -30,7 +30,7 @@ pub(crate) fn push_known(
         .map(|name| name.as_str())
         .collect(source.alloc)?;
     said.push_str(format!(in source.alloc; "the name of a {thing} (there are ")?.as_str())?;
-    push_words(said, words.as_slice())?;
+    push_names(said, source.alloc, words.as_slice())?;
     said.push(')')?;
     match source.text_of(found.layer().at)? {
         Some(word) => push_nearest(said, word.as_str(), words.as_slice()),

@@ -1,8 +1,8 @@
 //! Where a text stops being JSON, and whether it looks like YAML.
 
-ghost use Rattle.std.specs.Prelude.{◌≤◌, length, IfOk, OnOk, string_bytes};
+ghost use Rattle.std.specs.Prelude.{◌≡◌, ◌≤◌, ◌++◌, List, ℕ, drop, length, encode_utf8, IfOk, IfSome, OnOk, string_bytes};
 ghost use Rattle.conf_fault.specs.LineColumn.{IsPlaceIn};
-ghost use Rattle.conf_fault.specs.Explanation.{Adds, IsNotJson};
+ghost use Rattle.conf_fault.specs.Explanation.{Adds, IsFoundWords, IsNotJson, character_words};
 
 use crate::json_front::longest_front;
 use crate::line_column::{LineColumn, line_column, push_place};
@@ -14,8 +14,11 @@ use std::str;
 pub(crate) fn push_not_json(source: Source<'_>, said: &mut String) -> Result<(), AllocError>
     ensures { OnOk result (Adds (IsNotJson source.entry.text.now) (string_bytes said.old) (string_bytes said.new)) }
 {
-    push_place(source.alloc, said, json_place(source.alloc, source.text)?)?;
-    said.push_str("not JSON: expected one JSON value in UTF-8")?;
+    let at = front_length(source.alloc, source.text)?;
+    push_place(source.alloc, said, line_column(source.text, at))?;
+    said.push_str("not JSON: found ")?;
+    push_found(said, &source.text[at..])?;
+    said.push_str(": expected one JSON value in UTF-8")?;
     if !looks_like_yaml(source.text) {
         return Ok(());
     }
@@ -29,12 +32,54 @@ pub(crate) fn push_not_json(source: Source<'_>, said: &mut String) -> Result<(),
 pub fn json_place(alloc: Global, text: &[u8]) -> Result<LineColumn, AllocError>
     ensures { IfOk result (IsPlaceIn text.now) }
 {
+    let at = front_length(alloc, text)?;
+    Ok(line_column(text, at))
+}
+
+fn front_length(alloc: Global, text: &[u8]) -> Result<usize, AllocError>
+    ensures { IfOk result (λ at. at ≤ length text.now) }
+{
     let readable = match str::from_utf8(text) {
         Ok(_) => text.len(),
         Err(error) => error.valid_up_to(),
     };
-    let at = longest_front(alloc, &text[..readable])?;
-    Ok(line_column(text, at))
+    longest_front(alloc, &text[..readable])
+}
+
+/// Adds what stands at the front of some bytes.
+fn push_found(said: &mut String, bytes: &[u8]) -> Result<(), AllocError>
+    ensures { OnOk result (Adds (IsFoundWords bytes.now) (string_bytes said.old) (string_bytes said.new)) }
+{
+    if bytes.is_empty() {
+        return said.push_str("the end of the text");
+    }
+    match first_character(bytes) {
+        Some(character) => push_quoted(said, character),
+        None => said.push_str("a byte that is no UTF-8"),
+    }
+}
+
+fn push_quoted(said: &mut String, character: char) -> Result<(), AllocError>
+    ensures { OnOk result (string_bytes said.new ≡ string_bytes said.old ++ character_words character) }
+{
+    if character == '\u{feff}' {
+        return said.push_str("a byte order mark");
+    }
+    said.push_str("`")?;
+    said.push(character)?;
+    said.push_str("`")
+}
+
+/// The character in UTF-8 with which some bytes begin.
+fn first_character(bytes: &[u8]) -> Option<char>
+    ensures { IfSome result (λ c. (others : List ℕ) × (bytes.now ≡ encode_utf8 c ++ others)) }
+{
+    for len in 1..=bytes.len().min(4) {
+        if let Ok(text) = str::from_utf8(&bytes[..len]) {
+            return text.chars().next();
+        }
+    }
+    None
 }
 
 /// Whether a text begins, behind empty lines, with a comment, with `---` or `%YAML`, or with a name and a colon, as `trace:`.

@@ -3,15 +3,22 @@ use Rattle.std.specs.Prelude.{OnOk, codes}
 use Rattle.std.specs.List.{list_any}
 use Rattle.std.specs.Str.{bytes_eq}
 use Rattle.conf_fault.specs.Explanation.{Adds}
-use Rattle.conf_fault.specs.Wanted.{IsHint, IsMissingHint, end_name, is_hyphen}
+use Rattle.conf_fault.specs.Wanted.{IsClashHint, IsHint, IsMissingHint, end_name, is_hyphen}
 use Rattle.conf_fault.proofs.WantedLemmas.{hint_there, no_hint, no_hint_of_others, not_false, not_true}
 use Rattle.conf_fault.proofs.by_kind.push_hint.Goals as goal
 
 pub returns-in-Missing : goal.returns-in-Missing
 unfolding IsHint
 returns-in-Missing c =
-    rw c.in-Missing.is (subst (λ path. OnOk c.push_missing_hint.result (Adds (IsMissingHint path) (string_bytes c.args.said.now) (string_bytes c.push_missing_hint.new.said)))
-    c.as_slice.ensures c.push_missing_hint.ensures)
+    let steps = c.args.fault.now.path in
+    let now = string_bytes c.push_missing_hint.new.said in
+    rw c.in-Missing.is (subst (λ name. OnOk c.push_missing_hint.result (Adds (IsMissingHint steps name) (string_bytes c.args.said.now) now)) c.requires
+    (subst (λ path. OnOk c.push_missing_hint.result (Adds (IsMissingHint path c.args.name.now) (string_bytes c.args.said.now) now)) c.as_slice.ensures c.push_missing_hint.ensures))
+
+pub returns-in-NameClash : goal.returns-in-NameClash
+unfolding IsHint
+returns-in-NameClash c =
+    rw c.in-NameClash.is (subst (λ name. OnOk c.push_clash_hint.result (Adds (IsClashHint name) (string_bytes c.args.said.now) (string_bytes c.push_clash_hint.new.said))) c.requires c.push_clash_hint.ensures)
 
 pub returns-then-ne : goal.returns-then-ne
 unfolding IsHint
@@ -38,4 +45,4 @@ returns-else-not-contains c =
     rw c.in-BadName.is (hint_there c.push_str-in-BadName.result (list_any is_hyphen (end_name c.args.fault.now.path)) (codes "; a hyphen stands in no name, `_` does") _ _ some c.push_str-in-BadName.ensures.bytes)
 
 pub returns-in_default : goal.returns-in_default
-returns-in_default c = no_hint_of_others _ _ _ c.in_default.not-Missing c.in_default.not-Unknown c.in_default.not-BadName
+returns-in_default c = no_hint_of_others _ _ _ c.in_default.not-Missing c.in_default.not-Unknown c.in_default.not-BadName c.in_default.not-NameClash

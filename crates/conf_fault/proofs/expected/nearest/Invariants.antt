@@ -4,6 +4,6 @@ use Rattle.conf_fault.proofs.expected.nearest.Given as goal
 
 abbrev pub invariant-loop-word : goal.invariant-loop-word
 invariant-loop-word l = record {
-  seen : AreWithin l.text l.most (take l.word-index l.words);
-  best : IsBest l.text l.words l.most l.nearest;
+  seen : AreWithin l.text l.most l.least (take l.word-index l.words);
+  best : IsBest l.floor l.text l.words l.most l.least l.nearest;
 }

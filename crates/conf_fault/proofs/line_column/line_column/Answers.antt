@@ -23,5 +23,5 @@ returns c =
     record {
       line = ap (λ n. 1 + n) newlines ∙ ap line_behind same;
       column = ap (λ n. 1 + n) last ∙ ap column_behind same;
-      lies = (c.min.result, omega (arith, c.min.ensures), ap (λ n. 1 + n) newlines, ap (λ n. 1 + n) last);
+      lies = (c.min.result, (omega (arith, c.min.ensures), ap (λ n. 1 + n) newlines, ap (λ n. 1 + n) last));
     }

@@ -1,25 +1,35 @@
-use Rattle.std.proofs.Common.{◌≡◌, List, [], ◌++◌, ℕ, inl, inr, refl, sym, string_bytes, append-nil}
+use Rattle.std.proofs.Common.{◌≡◌, ◌-◌, List, [], ◌++◌, ℕ, arith, drop, inl, inr, length, refl, subst, sym, take, string_bytes, append-nil}
 use Rattle.std.specs.Prelude.{codes}
+use Rattle.std.proofs.lemmas.List.{length-drop, take_all}
 use Rattle.std.proofs.lemmas.Result.{on_ok_weaker}
 use Rattle.conf_fault.specs.declared.line_column.LineColumn.{LineColumn}
-use Rattle.conf_fault.specs.LineColumn.{IsPlaceIn}
-use Rattle.conf_fault.specs.Explanation.{Adds, IsNotJson, IsYamlHint, place_words}
+use Rattle.conf_fault.specs.LineColumn.{IsPlaceAt}
+use Rattle.conf_fault.specs.Explanation.{Adds, IsFoundWords, IsNotJson, IsYamlHint, place_words}
 use Rattle.conf_fault.proofs.Adding.{appended, behind}
 use Rattle.conf_fault.proofs.not_json.push_not_json.Goals as goal
 
-not_json : (text : List ℕ) (place : LineColumn) (was s1 s2 hint now : List ℕ) → IsPlaceIn text place → s1 ≡ was ++ place_words place → s2 ≡ s1 ++ codes "not JSON: expected one JSON value in UTF-8"
-    → IsYamlHint hint → now ≡ s2 ++ hint → Adds (IsNotJson text) was now
-not_json text place was s1 s2 hint now lies e1 e2 looks e3 =
-    let front = place_words place ++ codes "not JSON: expected one JSON value in UTF-8" in (
-      front ++ hint,
-      record { place = place_words place; hint = hint; lies = (place, lies, refl); looks = looks; is = refl },
-      behind was s2 now front hint (behind was s1 s2 (place_words place) (codes "not JSON: expected one JSON value in UTF-8") e1 e2) e3,
+not_json : (text : List ℕ) (at : ℕ) (place : LineColumn) (was s1 s2 s3 s4 hint now : List ℕ) → IsPlaceAt text at place → s1 ≡ was ++ place_words place → s2 ≡ s1 ++ codes "not JSON: found "
+    → Adds (IsFoundWords (drop at text)) s2 s3 → s4 ≡ s3 ++ codes ": expected one JSON value in UTF-8" → IsYamlHint hint → now ≡ s4 ++ hint → Adds (IsNotJson text) was now
+not_json text at place was s1 s2 s3 s4 hint now lies e1 e2 found e4 looks e5 =
+    let f2 = place_words place ++ codes "not JSON: found " in
+    let f3 = f2 ++ found.0 in
+    let f4 = f3 ++ codes ": expected one JSON value in UTF-8" in (
+      f4 ++ hint,
+      record { at = at; place = place; found = found.0; hint = hint; lies = lies; stands = found.1; looks = looks; is = refl },
+      behind was s4 now f4 hint (behind was s3 s4 f3 _ (behind was s2 s3 f2 found.0 (behind was s1 s2 (place_words place) _ e1 e2) found.2) e4) e5,
     )
 
+-- the rest of a text as the code cuts it
+rest : (text : List ℕ) (at : ℕ) (was now : List ℕ) → Adds (IsFoundWords (take (length text - at) (drop at text))) was now → Adds (IsFoundWords (drop at text)) was now
+rest text at was now found = subst (λ (bytes : List ℕ). Adds (IsFoundWords bytes) was now) (take_all (length text - at) (drop at text) (let same = length-drop at text in omega (arith, same))) found
+
 pub returns-then-not-looks_like_yaml : goal.returns-then-not-looks_like_yaml
-returns-then-not-looks_like_yaml c = not_json _ _ _ _ _ [] _ c.in_ok-json_place.ensures c.in_ok-push_place.ensures c.in_ok-push_str.ensures.bytes (inl refl) (sym (append-nil _))
+returns-then-not-looks_like_yaml c =
+    let lies : IsPlaceAt c.args.source.text.now c.in_ok-at.at c.line_column.result = (c.in_ok-at.ensures, c.line_column.ensures.line, c.line_column.ensures.column) in
+    not_json _ c.in_ok-at.at c.line_column.result _ _ _ _ _ [] _ lies c.in_ok-push_place.ensures c.in_ok-push_str.ensures.bytes (rest c.args.source.text.now c.in_ok-at.at _ _ c.in_ok-push_found.ensures) c.in_ok-push_str-2.ensures.bytes (inl refl) (sym (append-nil _))
 
 pub returns : goal.returns
 returns c =
-    on_ok_weaker c.push_str-2.result (not_json _ _ _ _ _ _ _ c.in_ok-json_place.ensures c.in_ok-push_place.ensures c.in_ok-push_str.ensures.bytes (inr refl))
-    (appended c.push_str-2.result (string_bytes c.push_str.new.self) _ (codes "; this looks like YAML, of which tools/yaml_to_json makes JSON") _ c.push_str-2.ensures.bytes refl)
+    let lies : IsPlaceAt c.args.source.text.now c.in_ok-at.at c.line_column.result = (c.in_ok-at.ensures, c.line_column.ensures.line, c.line_column.ensures.column) in
+    on_ok_weaker c.push_str-3.result (not_json _ c.in_ok-at.at c.line_column.result _ _ _ _ _ _ _ lies c.in_ok-push_place.ensures c.in_ok-push_str.ensures.bytes (rest c.args.source.text.now c.in_ok-at.at _ _ c.in_ok-push_found.ensures) c.in_ok-push_str-2.ensures.bytes (inr refl))
+    (appended c.push_str-3.result (string_bytes c.push_str-2.new.self) _ (codes "; this looks like YAML, of which tools/yaml_to_json makes JSON") _ c.push_str-3.ensures.bytes refl)
