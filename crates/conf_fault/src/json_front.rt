@@ -9,19 +9,43 @@ use std::str;
 /// The most objects and lists in one another.
 const MOST_LEVELS: usize = 127;
 
-/// What stands before a byte, beside the brackets, the comma and the colon that do themselves.
-const NOTHING: u8 = 0;
+/// What stands before a byte.
+#[derive(Clone, Copy, PartialEq, Eq)]
+enum Before {
+    Nothing,
+    /// A bracket that opens, a comma or a colon.
+    Mark(u8),
+    Name,
+    Value,
+}
 
-const NAME: u8 = 1;
+impl Before {
+    /// Whether a name can follow in an object.
+    fn takes_name(self) -> bool {
+        matches!(self, Before::Mark(b'{' | b','))
+    }
 
-const VALUE: u8 = 2;
+    /// Whether a value can follow, in an object or not.
+    fn takes_value(self, in_object: bool) -> bool {
+        match self {
+            Before::Nothing | Before::Mark(b'[' | b':') => true,
+            Before::Mark(b',') => !in_object,
+            Before::Mark(_) | Before::Name | Before::Value => false,
+        }
+    }
+
+    /// Whether the object or list can end.
+    fn ends(self) -> bool {
+        matches!(self, Before::Value | Before::Mark(b'{' | b'['))
+    }
+}
 
 /// The place of the first byte with which a text in UTF-8 is no longer the beginning of a JSON text, or of its end.
 pub(crate) fn longest_front(alloc: Global, text: &[u8]) -> Result<usize, AllocError>
     ensures { IfOk result (λ most. most ≤ length text.now) }
 {
     let mut closing: Vec<u8> = Vec::new(alloc);
-    let mut before = NOTHING;
+    let mut before = Before::Nothing;
     let mut next = 0usize;
     for at in 0..text.len() {
         let byte = text[at];
@@ -29,26 +53,29 @@ pub(crate) fn longest_front(alloc: Global, text: &[u8]) -> Result<usize, AllocEr
             continue;
         }
         let in_object = closing.last() == Some(&b'}');
-        let takes_name = in_object && matches!(before, b'{' | b',');
-        let takes_value = matches!(before, NOTHING | b'[' | b':') || (before == b',' && !in_object);
+        let takes_name = in_object && before.takes_name();
+        let takes_value = before.takes_value(in_object);
         before = match byte {
             b'{' | b'[' if takes_value && closing.len() < MOST_LEVELS => {
                 closing.push(if byte == b'{' { b'}' } else { b']' })?;
-                byte
+                Before::Mark(byte)
             }
-            b'}' | b']' if closing.last() == Some(&byte) && matches!(before, VALUE | b'{' | b'[') =>
-                {
-                    let _closed = closing.pop();
-                    VALUE
-                }
-            b',' if before == VALUE && !closing.is_empty() => b',',
-            b':' if before == NAME => b':',
+            b'}' | b']' if closing.last() == Some(&byte) && before.ends() => {
+                let _closed = closing.pop();
+                Before::Value
+            }
+            b',' if before == Before::Value && !closing.is_empty() => Before::Mark(b','),
+            b':' if before == Before::Name => Before::Mark(b':'),
             _ if takes_value || (takes_name && byte == b'"') => {
                 match scalar_end(text, at) {
                     Ok(end) => next = end,
                     Err(place) => return Ok(place.min(text.len())),
                 }
-                if takes_name { NAME } else { VALUE }
+                if takes_name {
+                    Before::Name
+                } else {
+                    Before::Value
+                }
             }
             _ => return Ok(at),
         };
