@@ -17,6 +17,7 @@ pub mod Reading
 pub mod Saying
 mod ScriptLaws
 pub mod SideBySide
+pub mod Standings
 mod StepLaws
 mod StreamLaws
 pub mod Telling

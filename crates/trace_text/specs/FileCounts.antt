@@ -1,7 +1,9 @@
 -- What is counted of a stream file, packet by packet.
-use Rattle.std.specs.Prelude.{◌≡◌, ℕ, ◌+◌, List, [], ◌∷◌, Option, None, Some, option_map, option_and_then, slice_get, length, if◌then◌else◌}
+use Rattle.std.specs.Prelude.{◌≡◌, ◌⊎◌, ℕ, ◌+◌, ◌^◌, ◌≤◌, List, [], ◌∷◌, Option, None, Some, option_map, option_and_then, slice_get, length, if◌then◌else◌}
 use Rattle.ctf_types.specs.declared.Metadata.{Metadata}
 use Rattle.ctf_types.specs.declared.ReadPacket.{ReadPacket}
+use Rattle.packet_reader.specs.declared.read_stop.ReadStop.{ReadStop}
+use Rattle.packet_reader.specs.declared.read_stop.ReadStop.TheVariants.{ReaderFault, TooManyReads, OutOfMemory}
 use Rattle.packet_reader.specs.SequenceGaps.{comes_next, gaps_in, number_size}
 use Rattle.trace_text.specs.declared.file_counts.FileCounts.{FileCounts}
 use Rattle.trace_text.specs.PrintedStreams.{last_discarded, record_count}
@@ -45,3 +47,13 @@ pub record IsCounted (m : Metadata) (ks : List ReadPacket) (c : FileCounts) : Ty
   pub gaps_are : c.gaps ≡ gaps_in m ks
   pub first_is : c.first ≡ first_place ks
   pub last_is : c.last ≡ last_number ks
+
+-- more than is counted: 2^64 packets, or 2^128 records
+abbrev pub ArePastCounting : List ReadPacket → Type 0
+ArePastCounting ks = (2 ^ 64 ≤ length ks) ⊎ (2 ^ 128 ≤ record_count ks)
+
+-- why packets are not counted: they are more than that, or memory was wanting
+abbrev pub IsCountFault : List ReadPacket → ReadStop → Type 0
+IsCountFault ks ReaderFault = ⊥
+IsCountFault ks TooManyReads = ArePastCounting ks
+IsCountFault ks OutOfMemory = Unit {0}

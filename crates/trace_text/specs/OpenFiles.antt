@@ -1,7 +1,7 @@
 -- Stream files that are read side by side, each with one packet in hand: what is known of each, and of all traces that go on from what was read.
 use Rattle.std.specs.Prelude.{◌≡◌, ◌≢◌, ℕ, ◌+◌, ◌^◌, ◌<◌, ◌≤◌, ◌-◌, List, [], ◌∷◌, ◌++◌, Bool, true, false, not, ◌&&◌, Option, None, Some, IsSome, nat_eq, nat_lt, if◌then◌else◌, length, slice_get, unwrap_or}
 use Rattle.std.specs.List.{AllZip, flat_map}
-use Rattle.std.specs.Option.{option_map_or}
+use Rattle.std.specs.Option.{option_map, option_map_or}
 use Rattle.std.specs.Ordering.{is_lt}
 use Rattle.clock_merge.specs.declared.place.Place.{Place}
 use Rattle.clock_merge.specs.MergedFronts.{Heads, IsMergedFront}
@@ -9,17 +9,18 @@ use Rattle.clock_merge.specs.MergedOrder.{IsMerged, record_order}
 use Rattle.ctf_types.specs.declared.Metadata.{Metadata}
 use Rattle.ctf_types.specs.declared.ReadPacket.{ReadPacket}
 use Rattle.packet_reader.specs.declared.packet_fault.StreamEnding.{StreamEnding}
+use Rattle.packet_reader.specs.declared.read_stop.ReadStop.{ReadStop}
 use Rattle.packet_reader.specs.declared.read_streams.ReadStream.{ReadStream}
 use Rattle.packet_reader.specs.declared.stream_reader.StreamReader.{StreamReader}
 use Rattle.packet_reader.specs.StreamClock.{stream_clock}
-use Rattle.packet_reader.specs.StreamReaders.{HasGiven, ending_of, metadata_of, read_so_far}
+use Rattle.packet_reader.specs.StreamReaders.{HasGiven, ending_of, metadata_of, read_so_far, stop_of}
 use Rattle.trace_text.specs.declared.next_step.Step.{Step}
 use Rattle.trace_text.specs.declared.next_step.Step.TheVariants.{Over, Read, Tell}
 use Rattle.trace_text.specs.declared.open_file.OpenFile.{OpenFile}
 use Rattle.trace_text.specs.declared.printing_from.PrintedFile.{PrintedFile}
 use Rattle.trace_text.specs.declared.printing_page.Page.{Page}
 use Rattle.trace_text.specs.FileCounts.{IsCounted}
-use Rattle.trace_text.specs.PrintedFromReaders.{Given, GoesOn, IsPrintedFile, Source, source}
+use Rattle.trace_text.specs.PrintedFromReaders.{Given, GoesOn, HasStopped, IsPrintedFile, Source, source}
 use Rattle.trace_text.specs.PrintedPages.{IsOpen, Says}
 use Rattle.trace_text.specs.PrintedTrace.{lines, place_line}
 
@@ -58,6 +59,7 @@ pub record IsOpenFile {R : Type 0} (remaining : R → Option (List ℕ)) (m : Me
   pub packet_is : file.head.packet ≡ 0
   pub in_hand : IsInHand ks file.stream.packets file.head.at
   pub at_end : file.over ≡ true → (file.stream.packets ≡ []) × IsSome (ending_of file.reader)
+  pub no_stop : stop_of file.reader ≡ None
 
 -- more is read of a file; of one that had come to its end, nothing
 abbrev pub ReadsOn : {R : Type 0} → List ReadPacket → StreamReader R → StreamReader R → Type 0
@@ -76,11 +78,16 @@ pub record TakesNext {R : Type 0} (remaining : R → Option (List ℕ)) (m : Met
   pub reads_on : ReadsOn more old.reader new.reader
   pub holds : HoldsNext more new
 
--- the reader gave a packet more or none, and no more comes
-pub record Stops {R : Type 0} (remaining : R → Option (List ℕ)) (m : Metadata) (f : Source) (ks : List ReadPacket) (old new : OpenFile R) : Type 0 where
+-- what a file's reader gave
+abbrev pub given : {R : Type 0} → Source → List ReadPacket → OpenFile R → Given
+given f ks file = record { name = f.name; packets = ks; standing = file.reader.standing }
+
+-- the reader gave a packet more or none, and no more comes, for this
+pub record Stops {R : Type 0} (remaining : R → Option (List ℕ)) (m : Metadata) (f : Source) (ks : List ReadPacket) (old new : OpenFile R) (stop : ReadStop) : Type 0 where
   pub more : List ReadPacket
   pub has_read : HasRead remaining m f (ks ++ more) new.reader
   pub reads_on : ReadsOn more old.reader new.reader
+  pub stopped : HasStopped (given f (ks ++ more) new) stop
 
 -- the clock of a file, once a packet more is read
 abbrev pub KnowsClock : {R : Type 0} → Metadata → ReadPacket → OpenFile R → OpenFile R → Type 0
@@ -129,9 +136,9 @@ head_behind ks (k ∷ rest) at = (length ks - 1, at)
 abbrev pub heads_of : {R : Type 0} → Packets → List (OpenFile R) → Heads
 heads_of ks files i = option_map_or (λ file. head_behind (ks i) file.stream.packets file.head.at) (slice_get files i) (0, 0)
 
--- what a file's reader gave
-abbrev pub given : {R : Type 0} → Source → List ReadPacket → OpenFile R → Given
-given f ks file = record { name = f.name; packets = ks; ending = ending_of file.reader }
+-- what the reader of the file at each place gave
+abbrev pub given_at : {R : Type 0} → (ℕ → Source) → Packets → List (OpenFile R) → ℕ → Option Given
+given_at sources ks files i = option_map (given (sources i) (ks i)) (slice_get files i)
 
 -- the streams of a whole trace that goes on from what was read
 pub record GoOn {R : Type 0} (m : Metadata) (sources : ℕ → Source) (ks : Packets) (files : List (OpenFile R)) (streams : List ReadStream) : Type 0 where

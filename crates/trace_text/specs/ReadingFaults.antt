@@ -7,7 +7,7 @@ use Rattle.ctf_types.specs.declared.Metadata.{Metadata}
 use Rattle.packet_reader.specs.declared.read_stop.ReadStop.{ReadStop}
 use Rattle.packet_reader.specs.declared.read_stop.ReadStop.TheVariants as stops
 use Rattle.packet_reader.specs.declared.read_streams.ReadStream.{ReadStream}
-use Rattle.packet_reader.specs.StreamReaders.{ending_of}
+use Rattle.packet_reader.specs.StreamReaders.{stop_in}
 use Rattle.trace_platform.specs.Fronts.{AppendsLess}
 use Rattle.trace_text.specs.declared.open_file.OpenFile.{OpenFile}
 use Rattle.trace_text.specs.declared.printing_fault.PrintFault.{PrintFault}
@@ -15,7 +15,8 @@ use Rattle.trace_text.specs.declared.printing_page.Page.{Page}
 use Rattle.trace_text.specs.declared.printing_fault.PrintFault.TheVariants as prints
 use Rattle.trace_text.specs.declared.reading_fault.ReadingFault.{ReadingFault}
 use Rattle.trace_text.specs.declared.reading_fault.ReadingFault.TheVariants.{Reader, Writer, TooManyRecords, OutOfMemory}
-use Rattle.trace_text.specs.PrintedFromReaders.{Given, GoesOn, PrintsFront, Source}
+use Rattle.trace_text.specs.OpenFiles.{SaysFront, given_at}
+use Rattle.trace_text.specs.PrintedFromReaders.{Given, GoesOn, HasStopped, PrintsFront, Source}
 use Rattle.trace_text.specs.PrintedTrace.{lines}
 
 -- what a fault says of so many readers: the one that it names is one of them, and did not stop for want of memory
@@ -38,19 +39,36 @@ of_print_fault prints.OutOfMemory = OutOfMemory
 
 -- ---- the reader that is named
 
--- the reader that a fault names has not come to its file's end
-abbrev pub NamesUnendedFile : {R : Type 0} → List (OpenFile R) → ReadingFault → Type 0
-NamesUnendedFile {R} files (Reader place stop) = (file : OpenFile R) × (slice_get files place ≡ Some file) × (ending_of file.reader ≡ None)
-NamesUnendedFile {R} files Writer = Unit {0}
-NamesUnendedFile {R} files TooManyRecords = Unit {0}
-NamesUnendedFile {R} files OutOfMemory = Unit {0}
+-- of what the readers gave, each at its place: none has stopped
+abbrev pub NoneStopped : (ℕ → Option Given) → Type 0
+NoneStopped given_of = (i : ℕ) (g : Given) → given_of i ≡ Some g → stop_in g.standing ≡ None
 
--- the same of what the readers gave
-abbrev pub NamesUnended : List Given → ReadingFault → Type 0
-NamesUnended given (Reader place stop) = (g : Given) × (slice_get given place ≡ Some g) × (g.ending ≡ None)
-NamesUnended given Writer = Unit {0}
-NamesUnended given TooManyRecords = Unit {0}
-NamesUnended given OutOfMemory = Unit {0}
+-- the one at this place has stopped with just this stop, and no other has
+pub record IsStopped (given_of : ℕ → Option Given) (place : ℕ) (stop : ReadStop) : Type 0 where
+  pub given : Given
+  pub there : given_of place ≡ Some given
+  pub stopped : HasStopped given stop
+  pub no_other : (i : ℕ) (g : Given) → i ≢ place → given_of i ≡ Some g → stop_in g.standing ≡ None
+
+-- a fault names the reader that stopped, and where it names none, none has, but for want of memory
+abbrev pub NamesStopped : (ℕ → Option Given) → ReadingFault → Type 0
+NamesStopped given_of (Reader place stop) = IsStopped given_of place stop
+NamesStopped given_of Writer = NoneStopped given_of
+NamesStopped given_of TooManyRecords = NoneStopped given_of
+NamesStopped given_of OutOfMemory = Unit {0}
+
+-- a fault of none of the readers
+abbrev pub NamesNoReader : ReadingFault → Type 0
+NamesNoReader (Reader place stop) = ⊥
+NamesNoReader Writer = Unit {0}
+NamesNoReader TooManyRecords = Unit {0}
+NamesNoReader OutOfMemory = Unit {0}
+
+-- behind a fault, of files that are read side by side: what was said is a front of the text of each trace that goes on, and the fault names the reader that stopped
+pub record SaysToFault {R : Type 0} (remaining : R → Option (List ℕ)) (m : Metadata) (sources : ℕ → Source) (files : List (OpenFile R))
+    (held : Option (List ℕ)) (page : Page) (later : Option (List ℕ)) (next : Page) (fault : ReadingFault) : Type 0 where
+  pub front : SaysFront remaining m sources files held page later next
+  pub names : NamesStopped (given_at sources front.ks files) fault
 
 -- ---- the writer that is blamed
 
@@ -69,8 +87,9 @@ WritesLess m given old new Writer = (streams : List ReadStream) (order : List Pl
 WritesLess m given old new TooManyRecords = Unit {0}
 WritesLess m given old new OutOfMemory = Unit {0}
 
--- behind a fault: a front is written of the text of each trace that goes on from what the readers gave, in the file of the reader that it names too
+-- behind a fault: a front is written of the text of each trace that goes on from what the readers gave. The reader that it names has, as it stands at the end, stopped with
+-- just this stop, and no other has
 pub record StopsAt (m : Metadata) (sources : List Source) (old new : Option (List ℕ)) (fault : ReadingFault) : Type 0 where
   pub front : PrintsFront m sources old new
-  pub reader : NamesUnended front.given fault
+  pub reader : NamesStopped (slice_get front.given) fault
   pub writer : WritesLess m front.given old new fault
