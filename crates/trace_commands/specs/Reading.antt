@@ -106,8 +106,8 @@ IsStopLine folder sources Writer line = IsOutputLine line
 IsStopLine folder sources TooManyRecords line = line ≡ codes "ctftrace: no end after 2^64 records" ++ 10 ∷ []
 IsStopLine folder sources NoMemory line = IsMemoryLine line
 
--- what is printed is a front of the text of each trace that goes on from what the readers gave, and a line says why it is no more: the reader of the file that it
--- names had not come to its end, or the output had not taken all
+-- what is printed is a front of the text of each trace that goes on from what the readers gave, and a line says why it is no more: of the readers, as they stand at the
+-- end, that of the file that it names has stopped, and no other, or the output had not taken all
 pub record IsCutShort (folder text : List ℕ) (sources : List Source) (old new old_errors new_errors : Option (List ℕ)) : Type 0 where
   pub metadata : Metadata
   pub denotes : Denotes text metadata
