@@ -82,9 +82,7 @@ fn push_wrong(
     if kind == ScriptFaultKind::Shape && push_form(alloc, said, place)? {
         return Ok(());
     }
-    if kind != ScriptFaultKind::BadValue || !push_bad(alloc, said, config, script, place)? {
-        push_blamed(alloc, said, place, kind)?;
-    }
+    push_blamed(alloc, said, config, script, place, kind)?;
     let kind_words = format!(in alloc; ": {kind}")?;
     said.push_str(kind_words.as_str())?;
     push_known(alloc, said, config, script, place, kind)
@@ -122,13 +120,18 @@ fn push_bad(
     }
 }
 
-/// The name that is unknown, or the value, by its first characters.
+/// The value that no field takes, the name that is unknown, or the entry, by its first characters.
 fn push_blamed(
     alloc: Global,
     said: &mut String,
+    config: &Config,
+    script: &Value,
     place: &Place<'_>,
     kind: ScriptFaultKind,
 ) -> Result<(), AllocError> {
+    if kind == ScriptFaultKind::BadValue && push_bad(alloc, said, config, script, place)? {
+        return Ok(());
+    }
     match unknown_name(place, kind) {
         Some(name) => push_cut(said, name),
         None => push_value(alloc, said, place.value),
