@@ -1,5 +1,6 @@
 pub mod Lengths
 pub mod Written
+pub mod FlawWords
 pub mod Fronts
 pub mod Twice
 pub mod Limits

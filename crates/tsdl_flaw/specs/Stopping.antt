@@ -16,10 +16,13 @@ abbrev pub kind_of : Flaw → MetaFaultKind
 kind_of (flaws.Syntax expected) = faults.Syntax
 kind_of flaws.NamedType = faults.Syntax
 kind_of flaws.LabelWithoutValue = faults.Syntax
+kind_of (flaws.NoClock clocks) = faults.Syntax
 kind_of (flaws.NoStream orphan) = faults.Syntax
 kind_of (flaws.Unsupported name remedy) = faults.Unsupported name
 kind_of flaws.Duplicate = faults.Duplicate
+kind_of (flaws.NumberTwice numbered) = faults.Duplicate
 kind_of flaws.NoPacketSize = faults.NoPacketSize
+kind_of (flaws.NoSize sizeless) = faults.NoPacketSize
 kind_of flaws.BadLength = faults.BadLength
 kind_of (flaws.Limit expected) = faults.Limit
 

@@ -4,6 +4,7 @@ ghost use Rattle.std.specs.Prelude.{◌≡◌, ◌++◌, ◌∷◌, [], List, If
 ghost use Rattle.tsdl_grammar.specs.declared.atom.Atom.{Atom};
 ghost use Rattle.tsdl_grammar.specs.Spelling.{name_toks};
 ghost use Rattle.tsdl_flaw.specs.Flaws.{IsWrong};
+ghost use Rattle.tsdl_flaw.specs.FlawWords.{twice_words, sizeless_words};
 ghost use Rattle.tsdl_flaw.specs.Stopping.{kind_of, StopsIn};
 ghost use Rattle.tsdl_flaw.specs.Written.{written};
 ghost use Rattle.tsdl_flaw.specs.declared.flaw.Stop.TheVariants as stops;
@@ -24,12 +25,18 @@ pub enum Flaw {
     NamedType,
     /// A label of an enumeration without a value.
     LabelWithoutValue,
+    /// No clock has the name that an integer is mapped to; the clocks that there are, in words.
+    NoClock(String),
     /// No stream has the number of an event's stream.
     NoStream(Orphan),
     /// A construct that is not read, by its name.
     Unsupported(String, Remedy),
     Duplicate,
+    /// The numbers of a stream or an event that another one has.
+    NumberTwice(Numbered),
     NoPacketSize,
+    /// A stream's packet context without one of the sizes.
+    NoSize(Sizeless),
     BadLength,
     /// More than these words allow.
     Limit(&'static str),
@@ -40,12 +47,14 @@ impl Flaw {
         ensures { result ≡ kind_of self }
     {
         match self {
-            Flaw::Syntax(_) | Flaw::NamedType | Flaw::LabelWithoutValue | Flaw::NoStream(_) => {
-                MetaFaultKind::Syntax
-            }
+            Flaw::Syntax(_)
+            | Flaw::NamedType
+            | Flaw::LabelWithoutValue
+            | Flaw::NoClock(_)
+            | Flaw::NoStream(_) => MetaFaultKind::Syntax,
             Flaw::Unsupported(name, _) => MetaFaultKind::Unsupported(name),
-            Flaw::Duplicate => MetaFaultKind::Duplicate,
-            Flaw::NoPacketSize => MetaFaultKind::NoPacketSize,
+            Flaw::Duplicate | Flaw::NumberTwice(_) => MetaFaultKind::Duplicate,
+            Flaw::NoPacketSize | Flaw::NoSize(_) => MetaFaultKind::NoPacketSize,
             Flaw::BadLength => MetaFaultKind::BadLength,
             Flaw::Limit(_) => MetaFaultKind::Limit,
         }
@@ -68,16 +77,21 @@ impl Flaw {
                     "a label without a value is TSDL that is not read here{CONVERTED}"
                 )?
             }
+            Flaw::NoClock(clocks) => {
+                format!(in alloc;
+                    "{}: expected the name of a clock: {clocks}",
+                    MetaFaultKind::Syntax
+                )?
+            }
             Flaw::NoStream(Orphan { stream, event }) => {
                 format!(in alloc; "no stream block with number {stream} for event {event:?}")?
             }
             Flaw::Unsupported(name, remedy) => {
-                let converted = match remedy {
-                    Remedy::Conversion => CONVERTED,
-                    Remedy::Nothing => "",
-                };
-                format!(in alloc; "`{name}` is not supported here{converted}")?
+                let how = remedy.words(alloc)?;
+                format!(in alloc; "`{name}` is not supported {how}")?
             }
+            Flaw::NumberTwice(numbered) => numbered.words(alloc)?,
+            Flaw::NoSize(sizeless) => sizeless.words(alloc)?,
             Flaw::Duplicate | Flaw::NoPacketSize | Flaw::BadLength => return Ok(None),
         }))
     }
@@ -90,11 +104,77 @@ pub struct Orphan {
     pub event: String,
 }
 
-/// What `babeltrace2 -o ctf` makes of a construct that is not read: it writes some in words that are, and keeps the others.
+/// A stream, or an event of it, that stands before with the same numbers.
+#[derive(Clone, Copy, Debug)]
+pub struct Numbered {
+    pub stream: u64,
+    pub event: Option<u64>,
+}
+
+impl Numbered {
+    /// The fault of another one with these numbers, in words.
+    pub fn words(&self, alloc: Global) -> Result<String, AllocError>
+        ensures { IfOk result (λ said. string_bytes said ≡ twice_words self.now) }
+    {
+        let twice = MetaFaultKind::Duplicate.to_string(alloc)?;
+        let stream = self.stream;
+        match self.event {
+            None => format!(in alloc; "{twice}: a stream with number {stream} stands before"),
+            Some(event) => {
+                format!(in alloc;
+                    "{twice}: an event with number {event} in stream {stream} stands before"
+                )
+            }
+        }
+    }
+}
+
+/// A stream whose packet context has no member of this name, which is the one of a size.
+#[derive(Clone, Copy, Debug)]
+pub struct Sizeless {
+    pub stream: u64,
+    pub size: &'static str,
+}
+
+impl Sizeless {
+    /// The fault of such a stream, in words.
+    pub fn words(&self, alloc: Global) -> Result<String, AllocError>
+        ensures { IfOk result (λ said. string_bytes said ≡ sizeless_words self.now) }
+    {
+        let Sizeless { stream, size } = *self;
+        format!(in alloc; "the packet context of stream {stream} has no `{size}`")
+    }
+}
+
+/// What can be done about a construct that is not read.
 #[derive(Clone, Copy, Debug)]
 pub enum Remedy {
+    /// `babeltrace2 -o ctf` writes it in words that are read.
     Conversion,
+    /// What these words tell is read in its place.
+    Instead(&'static str),
+    /// It is read with a type that these words tell.
+    WithType(&'static str),
+    /// It is read with this number.
+    WithNumber(u64),
     Nothing,
+}
+
+impl Remedy {
+    /// How a construct is not read, and what is read.
+    fn words(self, alloc: Global) -> Result<String, AllocError> {
+        Ok(match self {
+            Remedy::Conversion => format!(in alloc; "here{CONVERTED}")?,
+            Remedy::Instead(expected) => format!(in alloc; "here: expected {expected}")?,
+            Remedy::WithType(expected) => {
+                format!(in alloc; "with this type: expected {expected}")?
+            }
+            Remedy::WithNumber(expected) => {
+                format!(in alloc; "with this number: expected {expected}")?
+            }
+            Remedy::Nothing => String::from_str(alloc, "here")?,
+        })
+    }
 }
 
 /// A flaw, the index of the atom at which it stands, and the index behind what it speaks of. The end of the text has the index behind the last atom.

@@ -4,5 +4,5 @@
 mod flaw;
 mod spelled;
 
-pub use flaw::{CONVERTED, Fault, Flaw, Orphan, Remedy, Stop, dotted};
+pub use flaw::{CONVERTED, Fault, Flaw, Numbered, Orphan, Remedy, Sizeless, Stop, dotted};
 pub use spelled::Spelled;

@@ -9,7 +9,7 @@ use Rattle.tsdl_grammar.specs.{Pieces.piece_at, Positions.{line_after, column_af
 abbrev pub kind_words : MetaFaultKind → List ℕ
 kind_words faults.NoMagicLine = codes "expected the line `/* CTF 1.8 */`"
 kind_words faults.Token = codes "no token of TSDL starts here"
-kind_words faults.Syntax = codes "the grammar of TSDL has no such token here"
+kind_words faults.Syntax = codes "this is not allowed here"
 kind_words (faults.Unsupported name) = codes "`" ++ string_bytes name ++ codes "` is not supported here"
 kind_words faults.Duplicate = codes "this is given twice"
 kind_words faults.NoPacketSize = codes "a stream's packet context has no `packet_size` or no `content_size`"

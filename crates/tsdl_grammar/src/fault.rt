@@ -46,7 +46,7 @@ impl fmt::Display for MetaFaultKind {
         f.write_str(match self {
             MetaFaultKind::NoMagicLine => "expected the line `/* CTF 1.8 */`",
             MetaFaultKind::Token => "no token of TSDL starts here",
-            MetaFaultKind::Syntax => "the grammar of TSDL has no such token here",
+            MetaFaultKind::Syntax => "this is not allowed here",
             MetaFaultKind::Unsupported(name) => return write!(f, "`{name}` is not supported here"),
             MetaFaultKind::Duplicate => "this is given twice",
             MetaFaultKind::NoPacketSize => {

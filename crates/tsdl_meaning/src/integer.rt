@@ -24,6 +24,10 @@ pub(crate) const INTEGER_ATTRIBUTES: [&[&str]; 7] = [
     &["encoding"],
 ];
 
+/// The same in words.
+pub(crate) const INTEGER_PARTS: &str =
+    "`size`, `align`, `signed`, `byte_order`, `base`, `map` or `encoding`";
+
 /// The integer type that a list of attributes means.
 #[tactic(auto, unfolding(tsdl_grammar::specs::IntegerMeaning::int_meaning))]
 pub(crate) fn int_meaning(alloc: Global, known: &Known, attributes: &[Attribute]) -> Meant<IntType>
@@ -82,6 +86,18 @@ fn order_words(order: ByteOrder) -> &'static [&'static str]
         ByteOrder::Big => &["native", "be", "network"],
     }
 }
+
+/// The byte orders that an integer may have, by the trace's own one, in words.
+pub(crate) fn orders_of(trace: Option<ByteOrder>) -> &'static str {
+    match trace {
+        None => "`native`",
+        Some(ByteOrder::Little) => "`native` or `le`",
+        Some(ByteOrder::Big) => "`native`, `be` or `network`",
+    }
+}
+
+/// The bases that an integer may have, in words, of which some are shortened too.
+pub(crate) const BASES: &str = "2, 8, 10, 16, `binary`, `octal`, `decimal` or `hexadecimal`";
 
 #[tactic(auto, unfolding(tsdl_grammar::specs::IntegerMeaning::base_value))]
 pub(crate) fn base_value(value: &Value) -> Option<Base>

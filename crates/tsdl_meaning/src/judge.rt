@@ -3,9 +3,11 @@
 mod attribute;
 mod block;
 mod brackets;
+mod clock_words;
 mod kind;
 mod ledger;
 mod names;
+mod sizes;
 mod structure;
 mod survey;
 mod text;

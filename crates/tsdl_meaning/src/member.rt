@@ -17,6 +17,9 @@ use tsdl_grammar::{Attribute, Bracket, Kind, MemberTree, Value};
 /// The attributes that a string may have.
 pub(crate) const STRING_ATTRIBUTES: [&[&str]; 1] = [&["encoding"]];
 
+/// The same in words.
+pub(crate) const STRING_PARTS: &str = "`encoding`";
+
 /// The type of a member behind those before it.
 #[tactic(auto, unfolding(tsdl_grammar::specs::MemberMeaning::member_meaning))]
 pub(crate) fn member_meaning(
@@ -69,6 +72,9 @@ pub(crate) fn is_encoding(value: &Value) -> bool
 {
     word_value(value).is_some_and(|word| is_encoding_word(word.as_str()))
 }
+
+/// The words of `is_encoding_word`.
+pub(crate) const ENCODINGS: &str = "`UTF8`, `utf8`, `ASCII`, `ascii` or `none`";
 
 #[tactic(auto, using(crate::proofs::WordTables::other_word))]
 fn is_encoding_word(word: &str) -> bool

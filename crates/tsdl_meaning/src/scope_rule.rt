@@ -62,6 +62,20 @@ pub(crate) fn suits_rule(rule: ScopeRule, name: &str, member: &MemberType) -> bo
     }
 }
 
+/// The type that a rule asks of a member whose name has a meaning, in words.
+pub(crate) fn type_asked(rule: ScopeRule, name: &str) -> &'static str {
+    match rule {
+        ScopeRule::PacketHeader => match name {
+            "magic" => "an unsigned integer of 32 bits",
+            "uuid" => "an array of 16 unsigned integers of 8 bits, aligned to 8 bits",
+            _ => "an unsigned integer",
+        },
+        ScopeRule::AnyMembers | ScopeRule::PacketContext | ScopeRule::EventHeader => {
+            "an unsigned integer"
+        }
+    }
+}
+
 /// `magic`, `uuid` and `stream_id` have their types.
 fn suits_header(name: &str, member: &MemberType) -> bool
     ensures { result ≡ suits_header (name.now, member.now) }

@@ -20,6 +20,9 @@ pub(crate) fn trace_order(items: &[Item]) -> Option<ByteOrder>
     order_word(word_value(attr_in("byte_order", items)?)?.as_str())
 }
 
+/// The words of `order_word`.
+pub(crate) const ORDERS: &str = "`le` or `be`";
+
 #[tactic(auto, using(crate::proofs::WordTables::other_word))]
 pub(crate) fn order_word(word: &str) -> Option<ByteOrder>
     ensures { result ≡ meant_by order_table word.now }

@@ -23,11 +23,14 @@ pub placed : (text : List Atom) (at : ℕ) (flaw : Flaw) → IsFlawOf (slice_get
 placed text at (flaws.Syntax expected) h = tt
 placed text at flaws.NamedType h = tt
 placed text at flaws.LabelWithoutValue h = tt
+placed text at (flaws.NoClock clocks) h = absurd h
 placed text at (flaws.NoStream orphan) h = absurd h
 placed text at (flaws.Unsupported name remedy) h =
     word_stands text at _ (faults.Unsupported name) h (λ front. inl (record { words = record { first = _; rest = [] }; behind = []; here = refl; same = sym (append-nil _) }))
 placed text at flaws.Duplicate h = absurd h
+placed text at (flaws.NumberTwice numbered) h = absurd h
 placed text at flaws.NoPacketSize h = absurd h
+placed text at (flaws.NoSize sizeless) h = absurd h
 placed text at flaws.BadLength h = absurd h
 placed text at (flaws.Limit expected) h = absurd h
 
@@ -42,10 +45,13 @@ pub misses_none : (found : Option Atom) (flaw : Flaw) → IsFlawOf found flaw �
 misses_none found (flaws.Syntax expected) h e = absurd cc
 misses_none found flaws.NamedType h e = absurd cc
 misses_none found flaws.LabelWithoutValue h e = absurd cc
+misses_none found (flaws.NoClock clocks) h e = absurd h
 misses_none found (flaws.NoStream orphan) h e = absurd h
 misses_none found (flaws.Unsupported name remedy) h e = absurd cc
 misses_none found flaws.Duplicate h e = absurd h
+misses_none found (flaws.NumberTwice numbered) h e = absurd h
 misses_none found flaws.NoPacketSize h e = absurd h
+misses_none found (flaws.NoSize sizeless) h e = absurd h
 misses_none found flaws.BadLength h e = absurd h
 misses_none found (flaws.Limit expected) h e = absurd h
 

@@ -1,11 +1,30 @@
 -- A fault of a metadata text, explained: where it stands, what stands there, and what is wrong.
-use Rattle.std.specs.Prelude.{◌≡◌, ℕ, Bool, true, false, List, ◌++◌, length, min, codes}
+use Rattle.std.specs.Prelude.{◌≡◌, ℕ, ◌⊎◌, Bool, true, false, List, ◌++◌, length, min, codes}
 use Rattle.tsdl_grammar.specs.declared.fault.MetaFault.{MetaFault}
 use Rattle.tsdl_grammar.specs.declared.fault.MetaFaultKind.{MetaFaultKind}
 use Rattle.tsdl_grammar.specs.declared.fault.MetaFaultKind.TheVariants as faults
 use Rattle.tsdl_grammar.specs.FaultWords.{kind_words, IsFoundAt}
+use Rattle.tsdl_flaw.specs.FlawWords.{twice_words, sizeless_words}
+use Rattle.tsdl_flaw.specs.declared.flaw.Numbered.{Numbered}
+use Rattle.tsdl_flaw.specs.declared.flaw.Sizeless.{Sizeless}
 
--- the kinds whose own words say all that is wrong; of the others the text tells more
+-- the words tell the numbers that stand twice, or the stream that lacks a size and which one it is
+abbrev pub TellsNumbers : MetaFaultKind → List ℕ → Type 0
+TellsNumbers faults.NoMagicLine words = ⊥
+TellsNumbers faults.Token words = ⊥
+TellsNumbers faults.Syntax words = ⊥
+TellsNumbers (faults.Unsupported name) words = ⊥
+TellsNumbers faults.Duplicate words = (numbered : Numbered) × (words ≡ twice_words numbered)
+TellsNumbers faults.NoPacketSize words = (sizeless : Sizeless) × (words ≡ sizeless_words sizeless)
+TellsNumbers faults.BadLength words = ⊥
+TellsNumbers faults.Limit words = ⊥
+TellsNumbers faults.OutOfMemory words = ⊥
+
+-- what is wrong, in the words of its kind or with the numbers
+abbrev pub IsSaid : MetaFaultKind → List ℕ → Type 0
+IsSaid kind words = (words ≡ kind_words kind) ⊎ TellsNumbers kind words
+
+-- the kinds whose own words say all that is wrong but for numbers; of the others the text tells more
 abbrev pub says_all : MetaFaultKind → Bool
 says_all faults.NoMagicLine = false
 says_all faults.Token = false
@@ -23,4 +42,4 @@ pub record IsExplained (text : List ℕ) (fault : MetaFault) (said : List ℕ) :
   pub words : List ℕ
   pub said_is : said ≡ place ++ codes ": " ++ words
   pub place_is : IsFoundAt text (min fault.place (length text)) place
-  pub words_are : says_all fault.kind ≡ true → words ≡ kind_words fault.kind
+  pub words_are : says_all fault.kind ≡ true → IsSaid fault.kind words

@@ -59,10 +59,13 @@ abbrev pub IsFlawOf : Option Atom → Flaw → Type 0
 IsFlawOf found (flaws.Syntax expected) = Unit {0}
 IsFlawOf found flaws.NamedType = Unit {0}
 IsFlawOf found flaws.LabelWithoutValue = Unit {0}
+IsFlawOf found (flaws.NoClock clocks) = ⊥
 IsFlawOf found (flaws.NoStream orphan) = ⊥
 IsFlawOf found (flaws.Unsupported name remedy) = found ≡ Some (atoms.Word (string_bytes name))
 IsFlawOf found flaws.Duplicate = ⊥
+IsFlawOf found (flaws.NumberTwice numbered) = ⊥
 IsFlawOf found flaws.NoPacketSize = ⊥
+IsFlawOf found (flaws.NoSize sizeless) = ⊥
 IsFlawOf found flaws.BadLength = ⊥
 IsFlawOf found (flaws.Limit expected) = ⊥
 

@@ -68,21 +68,26 @@ fn flaw_of_word(alloc: Global, word: &str, expected: Expected) -> Result<Flaw, A
 
 /// What can be done about a word that is not read where it stands, None where it is no name of such a construct. Types
 /// that have names are written where they are used; aliases of types, and the words of C that stand for some, are written
-/// in other words; types of reals and variants stay.
+/// in other words; types of reals and variants stay. A keyword where a name or a value stands is none of these.
 fn remedy_of(word: &str, expected: Expected) -> Option<Remedy> {
+    let instead = Remedy::Instead(expected.words());
     match expected {
-        Expected::Block => Some(remedy_among(CONVERTED_BLOCKS, word)),
+        Expected::Block => Some(remedy_among(CONVERTED_BLOCKS, word, instead)),
         Expected::Member if word == "struct" => Some(Remedy::Nothing),
-        _ if is_unused_keyword(word) => Some(remedy_among(CONVERTED_WORDS, word)),
-        _ => None,
+        _ if !is_unused_keyword(word) => None,
+        Expected::Item => Some(remedy_among(CONVERTED_BLOCKS, word, instead)),
+        _ if is_place_of_a_type(expected) => {
+            Some(remedy_among(CONVERTED_TYPES, word, Remedy::Nothing))
+        }
+        _ => Some(instead),
     }
 }
 
-/// Constructs that a conversion writes in other words, where a block begins.
+/// Constructs that a conversion writes in other words, where a block or a part of it begins.
 const CONVERTED_BLOCKS: &[&str] = &["enum", "struct", "typealias", "typedef"];
 
-/// The same anywhere else.
-const CONVERTED_WORDS: &[&str] = &[
+/// The same where a type stands.
+const CONVERTED_TYPES: &[&str] = &[
     "_Bool",
     "char",
     "const",
@@ -96,11 +101,11 @@ const CONVERTED_WORDS: &[&str] = &[
 ];
 
 /// What can be done about a word, where a conversion writes these in other words.
-fn remedy_among(converted: &[&str], word: &str) -> Remedy {
+fn remedy_among(converted: &[&str], word: &str, otherwise: Remedy) -> Remedy {
     if converted.contains(&word) {
         Remedy::Conversion
     } else {
-        Remedy::Nothing
+        otherwise
     }
 }
 

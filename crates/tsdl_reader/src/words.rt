@@ -1,13 +1,12 @@
 //! Faults of a metadata text as people read them.
 
-ghost use Rattle.std.specs.Prelude.{◌≡◌, true, None, IfOk, string_bytes};
-ghost use Rattle.tsdl_grammar.specs.FaultWords.{kind_words};
-ghost use Rattle.tsdl_reader.specs.Explained.{says_all, IsExplained};
+ghost use Rattle.std.specs.Prelude.{◌≡◌, true, IfOk, IfSome, string_bytes};
+ghost use Rattle.tsdl_reader.specs.Explained.{says_all, IsExplained, IsSaid, TellsNumbers};
 
 use crate::meaning::meaning;
 use crate::token_words::token_words;
 use std::alloc::{AllocError, Global};
-use tsdl_flaw::{CONVERTED, Stop};
+use tsdl_flaw::{CONVERTED, Flaw, Stop};
 use tsdl_grammar::{MetaFault, MetaFaultKind, check_tokens, found_at};
 
 /// What packets of metadata begin with, as numbers in both byte orders.
@@ -25,7 +24,7 @@ pub fn explain_fault(alloc: Global, text: &[u8], fault: &MetaFault) -> Result<St
 
 /// What is wrong with a text at its fault, in words.
 fn words_of(alloc: Global, text: &[u8], fault: &MetaFault) -> Result<String, AllocError>
-    ensures { says_all fault.now.kind ≡ true → IfOk result (λ words. string_bytes words ≡ kind_words fault.now.kind) }
+    ensures { says_all fault.now.kind ≡ true → IfOk result (λ words. IsSaid fault.now.kind (string_bytes words)) }
 {
     match told_by(alloc, text, fault)? {
         Some(words) => Ok(words),
@@ -35,7 +34,7 @@ fn words_of(alloc: Global, text: &[u8], fault: &MetaFault) -> Result<String, All
 
 /// What a text tells of its fault, where the kind of the fault does not say all of it.
 fn told_by(alloc: Global, text: &[u8], fault: &MetaFault) -> Result<Option<String>, AllocError>
-    ensures { says_all fault.now.kind ≡ true → IfOk result (λ words. words ≡ None) }
+    ensures { says_all fault.now.kind ≡ true → IfOk result (λ said. IfSome said (λ words. TellsNumbers fault.now.kind (string_bytes words))) }
 {
     match fault.kind {
         MetaFaultKind::NoMagicLine => packets_words(alloc, text),
@@ -43,10 +42,8 @@ fn told_by(alloc: Global, text: &[u8], fault: &MetaFault) -> Result<Option<Strin
         MetaFaultKind::Syntax | MetaFaultKind::Unsupported(_) | MetaFaultKind::Limit => {
             atoms_words(alloc, text)
         }
-        MetaFaultKind::Duplicate
-        | MetaFaultKind::NoPacketSize
-        | MetaFaultKind::BadLength
-        | MetaFaultKind::OutOfMemory => Ok(None),
+        MetaFaultKind::Duplicate | MetaFaultKind::NoPacketSize => numbers_words(alloc, text, fault),
+        MetaFaultKind::BadLength | MetaFaultKind::OutOfMemory => Ok(None),
     }
 }
 
@@ -58,13 +55,40 @@ fn packets_words(alloc: Global, text: &[u8]) -> Result<Option<String>, AllocErro
     Ok(Some(format!(in alloc; "metadata in packets is not read here{CONVERTED}")?))
 }
 
-/// What is wrong with the atoms of a text.
+/// Which numbers stand twice, or which stream lacks a size.
+fn numbers_words(
+    alloc: Global,
+    text: &[u8],
+    fault: &MetaFault,
+) -> Result<Option<String>, AllocError>
+    ensures { IfOk result (λ said. IfSome said (λ words. TellsNumbers fault.now.kind (string_bytes words))) }
+{
+    match (&fault.kind, flaw_of_atoms(alloc, text)?) {
+        (MetaFaultKind::Duplicate, Some(Flaw::NumberTwice(numbered))) => {
+            Ok(Some(numbered.words(alloc)?))
+        }
+        (MetaFaultKind::NoPacketSize, Some(Flaw::NoSize(sizeless))) => {
+            Ok(Some(sizeless.words(alloc)?))
+        }
+        _ => Ok(None),
+    }
+}
+
+/// What is wrong with the atoms of a text, in words.
 fn atoms_words(alloc: Global, text: &[u8]) -> Result<Option<String>, AllocError> {
+    match flaw_of_atoms(alloc, text)? {
+        Some(flaw) => flaw.words(alloc),
+        None => Ok(None),
+    }
+}
+
+/// What is wrong with the atoms of a text.
+fn flaw_of_atoms(alloc: Global, text: &[u8]) -> Result<Option<Flaw>, AllocError> {
     if check_tokens(text).is_err() {
         return Ok(None);
     }
     match meaning(alloc, text) {
-        Err(Stop::Fault(fault)) => fault.flaw.words(alloc),
+        Err(Stop::Fault(fault)) => Ok(Some(fault.flaw)),
         Err(Stop::NoMemory) => Err(AllocError),
         Ok(_) => Ok(None),
     }

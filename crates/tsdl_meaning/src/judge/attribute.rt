@@ -8,10 +8,9 @@ ghost use Rattle.tsdl_grammar.specs.declared.token.Mark.TheVariants as marks;
 use crate::judge::block::{BlockKind, Judging};
 use crate::judge::names::Names;
 use crate::judge::value::{
-    judge_flag, judge_label, judge_natural, judge_text, judge_uuid, judge_whole, order_remedy,
-    unread,
+    judge_flag, judge_label, judge_natural, judge_text, judge_uuid, judge_whole, unread_order,
 };
-use crate::trace::order_word;
+use crate::trace::{ORDERS, order_word};
 use crate::value::{one_word, word_value};
 use std::alloc::Global;
 use tsdl_flaw::{Flaw, Remedy, Stop};
@@ -83,7 +82,7 @@ fn judge_order(alloc: Global, value: &Value, at: usize) -> Result<(), Stop>
 {
     match word_value(value) {
         Some(word) if order_word(word.as_str()).is_some() => Ok(()),
-        _ => Err(unread(alloc, value, at, order_remedy(value))),
+        _ => Err(unread_order(alloc, value, at, ORDERS)),
     }
 }
 
@@ -103,5 +102,6 @@ fn judge_version(
         return Ok(());
     }
     let part = String::from_str(alloc, part)?;
-    Err(Stop::at(at, value, Flaw::Unsupported(part, Remedy::Nothing)))
+    let flaw = Flaw::Unsupported(part, Remedy::WithNumber(wanted));
+    Err(Stop::at(at, value, flaw))
 }

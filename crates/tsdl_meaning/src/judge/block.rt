@@ -1,8 +1,9 @@
 //! The first flaw of a block: of an environment, or of a trace, a stream, an event or a clock with its attributes and scopes.
 
 ghost use Rattle.std.specs.Prelude.{◌≡◌, false, List, [], ◌∷◌, IfOk, IfErr, IsTrue, codes};
-ghost use Rattle.tsdl_meaning.specs.Words.{Atom, mark, word, scope_toks, items_toks, braced, fact_toks, named_fact_toks, IsTwice, StopsWhere, StopsAmong, EndsFacts, AreNoted, AreNamed, word_of, IsBegun, IsFlawlessBlock, AddsScope, IsEnded, IsNumberedAnew, scopes_of, needed, named_rules, first_texts, flat_map, is_some, fact_meaning, MeanEntries, AddsFact};
+ghost use Rattle.tsdl_meaning.specs.Words.{Atom, mark, word, scope_toks, items_toks, braced, fact_toks, named_fact_toks, IsTwice, StopsWhere, StopsAmong, EndsFacts, AreNoted, AreNamed, word_of, IsBegun, IsFlawlessBlock, AddsScope, IsEnded, IsNumberedAnew, scopes_of, needed, named_rules, first_texts, flat_map, is_some, fact_meaning, MeanEntries, AddsFact, kind_of};
 ghost use Rattle.tsdl_grammar.specs.declared.token.Mark.TheVariants as marks;
+ghost use Rattle.tsdl_grammar.specs.declared.fault.MetaFaultKind.TheVariants as faults;
 
 use crate::environment::has_fact;
 use crate::judge::attribute::judge_attribute;
@@ -17,7 +18,7 @@ use crate::trace::PACKET_HEADER;
 use crate::value::whole;
 use ctf_types::MAX_ENVIRONMENT;
 use std::alloc::Global;
-use tsdl_flaw::{Fault, Flaw, Remedy, Spelled, Stop};
+use tsdl_flaw::{Fault, Flaw, Numbered, Remedy, Spelled, Stop};
 use tsdl_grammar::{Fact, Item, NamedFact, Scope};
 
 #[derive(Clone, Copy)]
@@ -64,7 +65,8 @@ fn judge_scope(judging: &Judging, names: &mut Names, scope: &Scope, at: usize) -
 {
     let mut rows = scopes_of(judging.kind).iter();
     let Some(row) = rows.find(|row| has_words(&scope.name, row.0)) else {
-        return Err(Stop::unsupported(judging.alloc, at, &scope.name, Remedy::Nothing));
+        let remedy = Remedy::Instead(scope_words(judging.kind));
+        return Err(Stop::unsupported(judging.alloc, at, &scope.name, remedy));
     };
     names.add(judging.alloc, &scope.name, at)?;
     let behind = at.saturating_add(scope.name.length()).saturating_add(1);
@@ -84,6 +86,16 @@ fn scopes_of(kind: BlockKind) -> &'static [(&'static [&'static str], ScopeRule)]
     }
 }
 
+/// The same in words.
+fn scope_words(kind: BlockKind) -> &'static str {
+    match kind {
+        BlockKind::Trace => "`packet.header`",
+        BlockKind::Stream => "`packet.context`, `event.header` or `event.context`",
+        BlockKind::Event => "`context` or `fields`",
+        BlockKind::Clock => "an attribute",
+    }
+}
+
 /// Judges a block at its closing brace, an atom: what it has to have, and its numbers.
 fn judge_end(judging: &Judging, items: &[Item], at: usize) -> Result<(), Stop>
     ensures ended { IfOk result (λ _. IsEnded judging.now.kind judging.now.ledger.now items.now) }
@@ -94,9 +106,29 @@ fn judge_end(judging: &Judging, items: &[Item], at: usize) -> Result<(), Stop>
         return Err(Stop::at_atom(at, Flaw::Syntax(missing.1)));
     }
     if is_numbered_twice(judging, items) {
-        return Err(Stop::at_atom(at, Flaw::Duplicate));
+        return Err(Stop::at_atom(at, numbered_flaw(judging.kind, items)));
     }
     Ok(())
+}
+
+/// The flaw of a block whose numbers another one has.
+fn numbered_flaw(kind: BlockKind, items: &[Item]) -> Flaw
+    ensures { kind_of result ≡ faults.Duplicate }
+{
+    match kind {
+        BlockKind::Trace | BlockKind::Clock => Flaw::Duplicate,
+        BlockKind::Stream => Flaw::NumberTwice(Numbered {
+            stream: 0,
+            event: None,
+        }),
+        BlockKind::Event => match event_numbers(items) {
+            Some((stream, id)) => Flaw::NumberTwice(Numbered {
+                stream,
+                event: Some(id),
+            }),
+            None => Flaw::Duplicate,
+        },
+    }
 }
 
 /// Whether another stream has the number 0 of a stream without one, or another event the numbers of an event.

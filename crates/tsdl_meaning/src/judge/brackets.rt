@@ -103,7 +103,7 @@ fn judge_name(
 {
     if lengths.is_sequence || lengths.count > 0 {
         let name = String::from_str(alloc, name.as_str())?;
-        return Err(Stop::at_atom(at, Flaw::Unsupported(name, Remedy::Nothing)));
+        return Err(Stop::at_atom(at, Flaw::Unsupported(name, Remedy::Instead("a number"))));
     }
     if length_place(before, name.as_str()).is_none() {
         return Err(Stop::at_atom(at, Flaw::BadLength));

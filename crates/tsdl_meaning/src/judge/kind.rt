@@ -5,12 +5,15 @@ ghost use Rattle.tsdl_meaning.specs.Words.{flat_map, kind_toks, entry_toks, next
 ghost use Rattle.tsdl_grammar.specs.declared.token.Mark.TheVariants as marks;
 
 use crate::enumeration::{MAX_RANGES, rises};
-use crate::integer::{INTEGER_ATTRIBUTES, base_value, clock_value, order_value};
+use crate::integer::{
+    BASES, INTEGER_ATTRIBUTES, INTEGER_PARTS, base_value, clock_value, order_value, orders_of,
+};
 use crate::judge::block::Judging;
+use crate::judge::clock_words::clock_words;
 use crate::judge::names::Names;
-use crate::judge::value::{judge_align, judge_flag, judge_natural, number, order_remedy, unread};
+use crate::judge::value::{judge_align, judge_flag, judge_natural, number, unread, unread_order};
 use crate::lookup::{attr, is_among};
-use crate::member::{STRING_ATTRIBUTES, is_encoding};
+use crate::member::{ENCODINGS, STRING_ATTRIBUTES, STRING_PARTS, is_encoding};
 use crate::scope_rule::has_word;
 use crate::value::{one_word, word_value};
 use tsdl_flaw::{Flaw, Remedy, Spelled, Stop};
@@ -122,7 +125,8 @@ fn judge_attribute(
     ensures fault { IfErr result (StopsWhere (λ front. AreNamed front marks.Equals names.old.names) at (attr_toks attribute.now)) }
 {
     if !is_among(attributes_of(kind), &attribute.name) {
-        return Err(Stop::unsupported(judging.alloc, at, &attribute.name, Remedy::Nothing));
+        let remedy = Remedy::Instead(parts_of(kind));
+        return Err(Stop::unsupported(judging.alloc, at, &attribute.name, remedy));
     }
     names.add(judging.alloc, &attribute.name, at)?;
     let Some(word) = one_word(&attribute.name) else {
@@ -139,6 +143,14 @@ fn attributes_of(kind: TypeKind) -> &'static [&'static [&'static str]]
     match kind {
         TypeKind::Integer => &INTEGER_ATTRIBUTES,
         TypeKind::Text => &STRING_ATTRIBUTES,
+    }
+}
+
+/// The same in words.
+fn parts_of(kind: TypeKind) -> &'static str {
+    match kind {
+        TypeKind::Integer => INTEGER_PARTS,
+        TypeKind::Text => STRING_PARTS,
     }
 }
 
@@ -168,7 +180,7 @@ fn judge_value(
             _ => Ok(()),
         },
         TypeKind::Text if is_encoding(value) => Ok(()),
-        TypeKind::Text => Err(unread(judging.alloc, value, at, Remedy::Nothing)),
+        TypeKind::Text => Err(unread(judging.alloc, value, at, ENCODINGS)),
     }
 }
 
@@ -182,7 +194,13 @@ fn judge_order(judging: &Judging, value: &Value, at: usize) -> Result<(), Stop>
         Some(_)
             if judging.survey.has_order
                 && order_value(judging.survey.known.order(), value).is_some() => Ok(()),
-        _ => Err(unread(judging.alloc, value, at, order_remedy(value))),
+        _ => {
+            let trace = judging
+                .survey
+                .has_order
+                .then_some(judging.survey.known.order());
+            Err(unread_order(judging.alloc, value, at, orders_of(trace)))
+        }
     }
 }
 
@@ -198,7 +216,7 @@ fn judge_base(judging: &Judging, value: &Value, at: usize) -> Result<(), Stop>
         judge_natural(value, at)?;
         return Err(Stop::expected(at, value, "2, 8, 10 or 16"));
     }
-    Err(unread(judging.alloc, value, at, Remedy::Nothing))
+    Err(unread(judging.alloc, value, at, BASES))
 }
 
 /// `clock.NAME.value`. A clock that is not there is a flaw of its name.
@@ -215,7 +233,8 @@ fn judge_map(judging: &Judging, value: &Value, at: usize) -> Result<(), Stop>
     match name.rest.as_slice() {
         [_, last] if name.first.as_str() == "clock" && last.as_str() == "value" => {
             let place = at.saturating_add(2);
-            Err(Stop::at_atom(place, Flaw::Syntax("the name of a clock")))
+            let clocks = clock_words(judging.alloc, judging.survey.known.clocks())?;
+            Err(Stop::at_atom(place, Flaw::NoClock(clocks)))
         }
         _ => Err(Stop::expected(at, value, "`clock.NAME.value`")),
     }

@@ -4,6 +4,7 @@ ghost use Rattle.std.specs.Prelude.{◌≡◌, ◌↔◌, ◌⊎◌, ℕ, true, 
 ghost use Rattle.tsdl_meaning.specs.Words.{nat_cmp, ContainsKey, contains, contains_text, Atom, block_toks, Holds, kind_of, HasNumbers, AddsBlock, HaveStreams, IsEmpty, AreNoted, HasClock, HasStream, HasEvent, pair_cmp};
 ghost use Rattle.tsdl_grammar.specs.declared.fault.MetaFaultKind.TheVariants as faults;
 
+use crate::judge::sizes::flaw_of_sizes;
 use crate::lookup::{name_in, number_or_zero};
 use ctf_types::Text;
 use std::alloc::{AllocError, Global};
@@ -90,16 +91,18 @@ impl Ledger {
         Ok(())
     }
 
-    /// The flaw of a text that has none before its end.
-    pub(crate) fn flaw_at_end(&self, alloc: Global) -> Result<Flaw, AllocError>
+    /// The flaw of a text of these blocks that has none before its end.
+    pub(crate) fn flaw_at_end(&self, alloc: Global, blocks: &[Block]) -> Result<Flaw, AllocError>
         ensures complete { IfOk result (λ flaw. kind_of flaw ≡ faults.NoPacketSize → (self.now.has_trace ≡ true) × HaveStreams self.now) }
         ensures kind { IfOk result (λ flaw. (kind_of flaw ≡ faults.Syntax) ⊎ (kind_of flaw ≡ faults.NoPacketSize)) }
     {
         if !self.has_trace {
             return Ok(Flaw::Syntax("a trace block"));
         }
-        let orphan = self.first_orphan(alloc)?;
-        Ok(orphan.map_or(Flaw::NoPacketSize, Flaw::NoStream))
+        match self.first_orphan(alloc)? {
+            Some(orphan) => Ok(Flaw::NoStream(orphan)),
+            None => Ok(flaw_of_sizes(blocks)),
+        }
     }
 
     /// The first event by number whose stream is not there.

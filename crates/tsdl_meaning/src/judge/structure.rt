@@ -8,7 +8,7 @@ use crate::judge::brackets::judge_brackets;
 use crate::judge::kind::judge_kind;
 use crate::judge::value::judge_align;
 use crate::member::member_meaning;
-use crate::scope_rule::{ScopeRule, suits_rule};
+use crate::scope_rule::{ScopeRule, suits_rule, type_asked};
 use crate::structure::{MAX_MEMBERS, has_member};
 use ctf_types::{Members, Text};
 use tsdl_flaw::{Fault, Flaw, Remedy, Spelled, Stop};
@@ -59,7 +59,7 @@ fn judge_member(
     if !suits_rule(rule, tree.name.as_str(), &member) {
         let end = at.saturating_add(tree.brackets.length()).saturating_add(1);
         let name = String::from_str(judging.alloc, tree.name.as_str())?;
-        let flaw = Flaw::Unsupported(name, Remedy::Nothing);
+        let flaw = Flaw::Unsupported(name, Remedy::WithType(type_asked(rule, tree.name.as_str())));
         return Err(Stop::Fault(Fault { at, end, flaw }));
     }
     members.push(tree.name.copy(judging.alloc)?, member)?;

@@ -37,7 +37,7 @@ fn judge_blocks(alloc: Global, survey: &Survey, blocks: &[Block]) -> Result<Stop
         ledger.add(alloc, block)?;
         at = at.saturating_add(block.length()).saturating_add(1);
     }
-    let flaw = ledger.flaw_at_end(alloc)?;
+    let flaw = ledger.flaw_at_end(alloc, blocks)?;
     Ok(Stop::Fault(Fault { at, end: at, flaw }))
 }
 

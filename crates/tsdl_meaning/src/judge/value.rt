@@ -116,20 +116,30 @@ pub(crate) fn judge_flag(value: &Value, at: usize) -> Result<(), Stop>
     }
 }
 
-/// The flaw of a value that is none of the words that may stand here. Another name is not supported.
-pub(crate) fn unread(alloc: Global, value: &Value, at: usize, remedy: Remedy) -> Stop
+/// The flaw of a value that is none of these, which are told in words. Another name is not supported.
+pub(crate) fn unread(alloc: Global, value: &Value, at: usize, expected: &'static str) -> Stop
+    ensures { StopsAmong at (value_toks value.now) result }
+{
+    unfit(alloc, value, at, expected, Remedy::Instead(expected))
+}
+
+/// The flaw of a value that is none of the byte orders that these words tell. Another byte order is converted.
+pub(crate) fn unread_order(alloc: Global, value: &Value, at: usize, expected: &'static str) -> Stop
+    ensures { StopsAmong at (value_toks value.now) result }
+{
+    let remedy = match word_value(value) {
+        Some(word) if has_word(word.as_str(), &["be", "le", "network"]) => Remedy::Conversion,
+        _ => Remedy::Instead(expected),
+    };
+    unfit(alloc, value, at, expected, remedy)
+}
+
+/// The same, and what can be done about another name.
+fn unfit(alloc: Global, value: &Value, at: usize, expected: &'static str, remedy: Remedy) -> Stop
     ensures { StopsAmong at (value_toks value.now) result }
 {
     match value {
         Value::Name(name) => Stop::unsupported(alloc, at, name, remedy),
-        Value::Number(_) | Value::Text(_) => Stop::expected(at, value, "a name"),
-    }
-}
-
-/// What can be done about a value that is no byte order here: another byte order is converted.
-pub(crate) fn order_remedy(value: &Value) -> Remedy {
-    match word_value(value) {
-        Some(word) if has_word(word.as_str(), &["be", "le", "network"]) => Remedy::Conversion,
-        _ => Remedy::Nothing,
+        Value::Number(_) | Value::Text(_) => Stop::expected(at, value, expected),
     }
 }

@@ -207,7 +207,7 @@ fn finds_the_first_fault_of_a_text(rt: HostRuntime) -> Result<(), Fail> {
     same(
         &rt,
         said.as_str(),
-        "Unsupported(\"major\") at 60\nbyte 60, line 1, column 61: found \"2\": `major` is not supported here",
+        "Unsupported(\"major\") at 60\nbyte 60, line 1, column 61: found \"2\": `major` is not supported with this number: expected 1",
         "the fault",
     );
     Ok(())

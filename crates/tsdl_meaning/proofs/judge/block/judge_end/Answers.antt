@@ -1,6 +1,7 @@
-use Rattle.std.proofs.Common.{◌≡◌, ℕ, true, not, List, Bor, option_map, sym, ap, ◌∙◌, subst, rules, tests}
+use Rattle.std.proofs.Common.{◌≡◌, ℕ, true, not, List, [], ◌∷◌, Bor, option_map, sym, ap, ◌∙◌, subst, rules, tests}
 use Rattle.tsdl_meaning.proofs.BlockAttributes.{none_missed}
-use Rattle.tsdl_meaning.proofs.TextWords.{YieldsList-from_slice, attr, attrs_in, find_from_yields_List, is_some, list_all, mark}
+use Rattle.tsdl_grammar.specs.declared.fault.MetaFaultKind.{MetaFaultKind}
+use Rattle.tsdl_meaning.proofs.TextWords.{IsWrong, YieldsList-from_slice, attr, attrs_in, find_from_yields_List, is_some, list_all, mark}
 use Rattle.tsdl_grammar.specs.declared.token.Mark.TheVariants as marks
 use Rattle.tsdl_meaning.proofs.judge.block.judge_end.Goals as goal
 
@@ -9,7 +10,8 @@ returns-in-Some-clause-fault c = λ front behind b. c.at_atom.ensures front behi
 
 pub returns-then-is_numbered_twice-clause-fault : goal.returns-then-is_numbered_twice-clause-fault
 returns-then-is_numbered_twice-clause-fault c = λ front behind b.
-    c.at_atom-then-is_numbered_twice.ensures front behind (mark marks.CloseBrace) (c.is_numbered_twice.ensures.twice front c.if-is_numbered_twice.true b)
+    c.at_atom-then-is_numbered_twice.ensures front behind (mark marks.CloseBrace)
+    (subst (λ (kind : MetaFaultKind). IsWrong front (mark marks.CloseBrace ∷ []) kind) (sym c.numbered_flaw.ensures) (c.is_numbered_twice.ensures.twice front c.if-is_numbered_twice.true b))
 
 pub returns-clause-ended : goal.returns-clause-ended
 returns-clause-ended c = record {

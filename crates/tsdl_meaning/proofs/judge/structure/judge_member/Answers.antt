@@ -6,7 +6,7 @@ use Rattle.tsdl_meaning.proofs.FlawlessTypes.{member_means}
 use Rattle.tsdl_meaning.proofs.JudgedParts.{behind_first, ends_more, handed, stops_same}
 use Rattle.tsdl_meaning.proofs.StopsInMembers.{member_parts, word_unread}
 use Rattle.tsdl_flaw.specs.declared.flaw.Flaw.TheVariants as flaws
-use Rattle.tsdl_flaw.specs.declared.flaw.Remedy.TheVariants.{Nothing}
+use Rattle.tsdl_flaw.specs.declared.flaw.Remedy.TheVariants.{WithType}
 use Rattle.tsdl_flaw.specs.declared.flaw.Fault.{Fault}
 use Rattle.tsdl_flaw.specs.declared.flaw.Stop.TheVariants as stops
 use Rattle.tsdl_flaw.proofs.Stops.{whole}
@@ -71,7 +71,7 @@ returns-then-not-suits_rule-clause-fault c = λ done same front behind ends.
     let place = c.saturating_add-at.result in
     let end = c.saturating_add-end.result in
     let name = c.in_ok-name.name in
-    let fault : Fault = record { at = place; end = end; flaw = flaws.Unsupported name Nothing } in
+    let fault : Fault = record { at = place; end = end; flaw = flaws.Unsupported name (WithType c.type_asked.result) } in
     stops_after front (member_toks t ++ behind) kind ((word t.name ∷ brackets) ++ mark marks.Semicolon ∷ behind) c.args.at place (stops.Fault fault) (member_parts t behind)
     (behind_first kind c.args.at c.length.result place c.length.ensures c.saturating_add-at.ensures)
     (whole (front ++ kind) (word t.name ∷ brackets) (mark marks.Semicolon ∷ behind) fault place end refl refl
