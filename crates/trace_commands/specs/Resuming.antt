@@ -6,10 +6,11 @@ use Rattle.ctf_types.specs.declared.Config.{Config}
 use Rattle.ctf_types.specs.declared.Metadata.{Metadata}
 use Rattle.ctf_types.specs.MetadataOf.{metadata_of}
 use Rattle.ctf_types.specs.declared.ReadPacket.{ReadPacket}
-use Rattle.packet_reader.specs.declared.read_streams.ReadStream.{ReadStream}
+use Rattle.packet_reader.specs.declared.earlier_file.EarlierFile.{EarlierFile}
+use Rattle.packet_reader.specs.declared.packet_fault.StreamEnding.{StreamEnding}
 use Rattle.packet_reader.specs.declared.resuming.ResumePoint.{ResumePoint}
+use Rattle.packet_reader.specs.StreamReading.{Reads}
 use Rattle.trace_stack.specs.GoneOn.{IsBefore}
-use Rattle.trace_stack.specs.Reading.{FileRead}
 use Rattle.trace_text.specs.declared.script.ScriptStream.{ScriptStream}
 use Rattle.tsdl_grammar.specs.Denotes.{Denotes}
 use Rattle.tsdl_writer.specs.Written.{written}
@@ -25,10 +26,10 @@ abbrev pub RefusesAt : List ℕ → List ℕ → NotResumed → Type 0
 RefusesAt path said (Refused line) = line.items ≡ fault_line path said
 RefusesAt path said (Failed failure) = FailsAt (λ failed. failed ≡ path) failure
 
--- what was read of a file does not end whole, which a line of it says; or the folder or a file in it failed, or memory was wanting
-abbrev pub RefusesEnd : List ℕ → ReadStream → NotResumed → Type 0
-RefusesEnd folder found (Refused line) = (is_whole found.end ≡ false) × IsEndLine folder found.name (length found.packets) found.end line.items
-RefusesEnd folder found (Failed failure) = FailsAt (IsPathIn folder) failure
+-- the file of this name gave no point, and a line says how it ends; or the folder or a file in it failed, or memory was wanting
+abbrev pub RefusesEnd : List ℕ → List ℕ → EarlierFile → NotResumed → Type 0
+RefusesEnd folder name found (Refused line) = (found.point ≡ None) × IsEndLine folder name found.packets found.end line.items
+RefusesEnd folder name found (Failed failure) = FailsAt (IsPathIn folder) failure
 
 -- what is said of metadata that are not there, and of others than the configuration's
 abbrev pub no_metadata : List ℕ
@@ -64,10 +65,11 @@ module _ {File : Type 0} (remaining : File → Option (List ℕ)) where
   pub record IsBroken (m : Metadata) (name folder line : List ℕ) : Type 0 where
     pub bytes : List ℕ
     pub given : WasGiven remaining bytes
-    pub found : ReadStream
-    pub read : FileRead m name bytes found
-    pub not_whole : is_whole found.end ≡ false
-    pub said : IsEndLine folder found.name (length found.packets) found.end line
+    pub packets : List ReadPacket
+    pub end : StreamEnding
+    pub reads : Reads m bytes packets end
+    pub not_whole : is_whole end ≡ false
+    pub said : IsEndLine folder name (length packets) end line
 
   -- the files of the streams before this one are not there, or have points, and its own is broken
   pub record HasBroken (m : Metadata) (streams : List ScriptStream) (folder line : List ℕ) : Type 0 where
