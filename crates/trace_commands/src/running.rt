@@ -17,7 +17,7 @@ use std::sync::Wait;
 use std::thread::Threads;
 
 /// Runs the command that the words ask for, which are those behind the program's own name, and answers the exit status: 0; 1 where what was
-/// read has a fault; 2 where the words ask for no command; 3 where a file, a read or a write failed or memory was wanting, which a line on
+/// read has a fault; 2 where the words ask for no command; 3 where a file, a read, a write or a thread failed or memory was wanting, which a line on
 /// `errors` says. Without words, numbers of `input` are traced. How far `trace` and `read` are is said by `rt`, unless they are to be quiet, and without words
 /// that numbers are waited for; never on `errors`.
 #[tactic(auto, using(crate::proofs::TracingLaws::asked_sizes))]
