@@ -45,7 +45,7 @@ blamed_value fault rows part value Says Q found told (inl memory) needs = inl me
 blamed_value fault rows part value Says Q found told (inr none) needs = inr (
   part,
   (λ others x alike q. none (needs others x alike q).0 (needs others x alike q).1),
-  subst (λ (o : Option Text). TellsPart part o fault) (sym found) told,
+  subst (λ (o : Option Text). TellsPart part o fault) (sym found) (inl told),
 )
 
 -- what holds of a refusal in both ways

@@ -1,5 +1,5 @@
 -- What the words of a command line ask for: the command that they name, with the values that they give for its parts, or the defaults.
-use Rattle.std.specs.Prelude.{◌≡◌, ◌<◌, ◌≤◌, ◌^◌, if◌then◌else◌, ℕ, Bool, true, false, List, [], ◌∷◌, Option, Some, None, option_map, codes}
+use Rattle.std.specs.Prelude.{◌≡◌, ◌≢◌, ◌<◌, ◌≤◌, ◌^◌, if◌then◌else◌, ℕ, Bool, true, false, List, [], ◌∷◌, Option, Some, None, option_map, codes}
 use Rattle.std.specs.Str.Parse.{IsNumeral, digits_value, without_leading_plus}
 use Rattle.std.specs.Borrow.{Bor}
 use Rattle.uuid.specs.Text.{parsed}
@@ -38,6 +38,10 @@ uuid_said (Some text) = option_map (λ u. Some u) (parsed text)
 abbrev pub HasWord : List Row → Text → Bor Text → Type 0
 HasWord rows id word = first_of id rows ≡ Some word.now
 
+-- a path is found: a word with a character
+abbrev pub HasPath : List Row → Text → Bor Text → Type 0
+HasPath rows id path = HasWord rows id path × (path.now ≢ [])
+
 abbrev pub HasNumber : List Row → Text → ℕ → ℕ → Type 0
 HasNumber rows id most n = (text : Text) × (first_of id rows ≡ Some text) × SaysNumber text most n
 
@@ -70,13 +74,13 @@ HasResuming rows Anew = HasFlag rows (codes "resume") false
 HasResuming rows Behind = HasFlag rows (codes "resume") true
 
 pub record AsksMetadata (rows : List Row) (m : MetadataCommand) : Type 0 where
-  pub config : HasWord rows (codes "config") m.config
+  pub config : HasPath rows (codes "config") m.config
   pub uuid : HasUuid rows m.uuid
 
 pub record AsksTrace (rows : List Row) (t : TraceCommand) : Type 0 where
-  pub config : HasWord rows (codes "config") t.config
-  pub script : HasWord rows (codes "script") t.script
-  pub folder : HasWord rows (codes "folder") t.folder
+  pub config : HasPath rows (codes "config") t.config
+  pub script : HasPath rows (codes "script") t.script
+  pub folder : HasPath rows (codes "folder") t.folder
   pub packet : HasNumber rows (codes "packet") (2 ^ 20) t.packet_bytes
   pub buffers : HasNumber rows (codes "buffers") 1024 t.buffers
   pub uuid : HasUuid rows t.uuid
@@ -85,14 +89,14 @@ pub record AsksTrace (rows : List Row) (t : TraceCommand) : Type 0 where
   pub resume : HasResuming rows t.resume
 
 pub record AsksRead (rows : List Row) (r : ReadCommand) : Type 0 where
-  pub folder : HasWord rows (codes "folder") r.folder
+  pub folder : HasPath rows (codes "folder") r.folder
   pub quiet : HasFlag rows (codes "quiet") r.is_quiet
 
 -- ---- the command
 
 abbrev pub AsksBy : Text → List Row → Command → Type 0
 AsksBy name rows FirstPath = ⊥
-AsksBy name rows (Check config) = (name ≡ codes "check") × HasWord rows (codes "config") config
+AsksBy name rows (Check config) = (name ≡ codes "check") × HasPath rows (codes "config") config
 AsksBy name rows (Metadata m) = (name ≡ codes "metadata") × AsksMetadata rows m
 AsksBy name rows (Trace t) = (name ≡ codes "trace") × AsksTrace rows t
 AsksBy name rows (Read r) = (name ≡ codes "read") × AsksRead rows r

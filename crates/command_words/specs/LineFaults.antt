@@ -60,10 +60,18 @@ TellsMissing word (Help text) = ⊥
 TellsMissing word (Bad text) = string_bytes text ≡ missing_line word
 TellsMissing word OutOfMemory = ⊤
 
+-- the parts of commands that are paths
+abbrev pub paths : List Text
+paths = codes "config" ∷ codes "script" ∷ codes "folder" ∷ []
+
+-- of an empty path it is told that nothing is given
+abbrev pub TellsEmpty : Text → Text → LineFault → Type 0
+TellsEmpty part value fault = Contains paths part × (value ≡ []) × TellsMissing part fault
+
 -- what was found for this part of a command is told: its value, or that there is none
 abbrev pub TellsPart : Text → Option Text → LineFault → Type 0
 TellsPart part None fault = TellsMissing part fault
-TellsPart part (Some value) fault = TellsValue part value fault
+TellsPart part (Some value) fault = TellsValue part value fault ⊎ TellsEmpty part value fault
 
 -- the same was found for this part, and workers are asked for in both or in neither
 abbrev pub AreAlike : Text → List Row → List Row → Type 0

@@ -1,9 +1,9 @@
 //! What the words of a command line ask for.
 
-ghost use Rattle.std.specs.Prelude.{◌⊎◌, map, IfOk, IfErr};
+ghost use Rattle.std.specs.Prelude.{◌⊎◌, map, Contains, IfOk, IfErr};
 ghost use Rattle.clap.specs.Words.{rows_of, found_of};
-ghost use Rattle.command_words.specs.CommandLine.{Asks, AsksBy, AsksTrace, AsksMetadata, AsksRead, HasWord, HasNumber, HasUuid, HasFlag, HasResuming, IsMemory};
-ghost use Rattle.command_words.specs.LineFaults.{Expects, IsBlamed, IsBlamedOf, IsFaultOfWords, TellsMissing, flag_words, range_words};
+ghost use Rattle.command_words.specs.CommandLine.{Asks, AsksBy, AsksTrace, AsksMetadata, AsksRead, HasWord, HasPath, HasNumber, HasUuid, HasFlag, HasResuming, IsMemory};
+ghost use Rattle.command_words.specs.LineFaults.{Expects, IsBlamed, IsBlamedOf, IsFaultOfWords, TellsMissing, flag_words, paths, range_words};
 ghost use Rattle.command_words.specs.declared.commands.Command.{Command as Wanted};
 
 use crate::commands::{
@@ -47,7 +47,7 @@ fn named<'a>(
     ensures blamed { IfErr result (IsBlamedOf name.now (rows_of (found_of found.now))) }
 {
     match name {
-        "check" => Ok(commands::Command::Check(needed(alloc, found, "config")?)),
+        "check" => Ok(commands::Command::Check(path(alloc, found, "config")?)),
         "metadata" => Ok(commands::Command::Metadata(metadata_command(alloc, found)?)),
         "trace" => Ok(commands::Command::Trace(trace_command(alloc, found)?)),
         "read" => Ok(commands::Command::Read(read_command(alloc, found)?)),
@@ -62,7 +62,7 @@ fn metadata_command<'a>(
     ensures asks { IfOk result (λ m. AsksMetadata (rows_of (found_of found.now)) m) }
     ensures blamed { IfErr result (IsBlamed AsksMetadata (rows_of (found_of found.now))) }
 {
-    let config = needed(alloc, found, "config")?;
+    let config = path(alloc, found, "config")?;
     let uuid = identified(alloc, found)?;
     Ok(MetadataCommand { config, uuid })
 }
@@ -71,9 +71,9 @@ fn trace_command<'a>(alloc: Global, found: &ArgMatches<'a>) -> Result<TraceComma
     ensures asks { IfOk result (λ t. AsksTrace (rows_of (found_of found.now)) t) }
     ensures blamed { IfErr result (IsBlamed AsksTrace (rows_of (found_of found.now))) }
 {
-    let config = needed(alloc, found, "config")?;
-    let script = needed(alloc, found, "script")?;
-    let folder = needed(alloc, found, "folder")?;
+    let config = path(alloc, found, "config")?;
+    let script = path(alloc, found, "script")?;
+    let folder = path(alloc, found, "folder")?;
     let packet_bytes = counted(alloc, found, "packet", MOST_PACKET_BYTES)?;
     let buffers = counted(alloc, found, "buffers", MOST_BUFFERS)?;
     let uuid = identified(alloc, found)?;
@@ -97,7 +97,7 @@ fn read_command<'a>(alloc: Global, found: &ArgMatches<'a>) -> Result<ReadCommand
     ensures asks { IfOk result (λ r. AsksRead (rows_of (found_of found.now)) r) }
     ensures blamed { IfErr result (IsBlamed AsksRead (rows_of (found_of found.now))) }
 {
-    let folder = needed(alloc, found, "folder")?;
+    let folder = path(alloc, found, "folder")?;
     let is_quiet = flag(alloc, found, "quiet")?;
     Ok(ReadCommand { folder, is_quiet })
 }
@@ -111,6 +111,18 @@ fn resuming(alloc: Global, found: &ArgMatches<'_>) -> Result<Resuming, LineFault
         return Ok(Resuming::Behind);
     }
     Ok(Resuming::Anew)
+}
+
+/// The path that was found for a place. An empty one, as a variable without a value gives, is none: a file below it would be one of the root folder.
+fn path<'a>(alloc: Global, found: &ArgMatches<'a>, id: &str) -> Result<&'a str, LineFault>
+    requires { Contains paths id.now }
+    ensures has { IfOk result (λ path. HasPath (rows_of (found_of found.now)) id.now path) }
+    ensures blamed { IfErr result (IsBlamed (λ rows path. HasPath rows id.now path) (rows_of (found_of found.now))) }
+{
+    match needed(alloc, found, id)? {
+        "" => Err(incomplete(alloc, id)),
+        word => Ok(word),
+    }
 }
 
 /// The word that was found for a place.

@@ -13,9 +13,9 @@ use clap::ArgMatches;
 use std::alloc::Global;
 
 /// The readings of each worker where no quota is said.
-const READINGS: u64 = 1000000;
+const READINGS: u64 = 1_000_000;
 
-/// Readings of 64 workers that have 64 bits stay below this number each.
+/// A quota is below this number: 64 workers together then make fewer than 2^64 readings, so each reading has 64 bits.
 const BOUND: u64 = 1 << 58;
 
 /// The quota of each worker, where workers are asked for. A quota without workers is refused.

@@ -1,22 +1,22 @@
 use Rattle.std.proofs.Common.{◌^◌, ℕ, Bool, List, codes}
 use Rattle.clap.specs.Words.{found_of, rows_of, Row}
-use Rattle.command_words.specs.CommandLine.{HasWord, HasNumber, HasUuid, HasFlag, HasResuming, HasWorkers, AsksTrace}
+use Rattle.command_words.specs.CommandLine.{HasPath, HasNumber, HasUuid, HasFlag, HasResuming, HasWorkers, AsksTrace}
 use Rattle.command_words.proofs.CommandLineLaws.{blame_on}
 use Rattle.command_words.proofs.command_line.trace_command.Goals as goal
 
 pub returns-in_err-config-clause-blamed : goal.returns-in_err-config-clause-blamed
 returns-in_err-config-clause-blamed c =
-    blame_on c.from_residual.result c.in_err-config.field-0.0 (λ (rows : List Row) word. HasWord rows (codes "config") word) AsksTrace (rows_of (found_of c.args.found.now))
+    blame_on c.from_residual.result c.in_err-config.field-0.0 (λ (rows : List Row) path. HasPath rows (codes "config") path) AsksTrace (rows_of (found_of c.args.found.now))
     c.from_residual.ensures.1 c.in_err-config.ensures.blamed (λ others x a. (x.config, a.config))
 
 pub returns-in_err-script-clause-blamed : goal.returns-in_err-script-clause-blamed
 returns-in_err-script-clause-blamed c =
-    blame_on c.from_residual-in_err-script.result c.in_err-script.field-0.0 (λ (rows : List Row) word. HasWord rows (codes "script") word) AsksTrace (rows_of (found_of c.args.found.now))
+    blame_on c.from_residual-in_err-script.result c.in_err-script.field-0.0 (λ (rows : List Row) path. HasPath rows (codes "script") path) AsksTrace (rows_of (found_of c.args.found.now))
     c.from_residual-in_err-script.ensures.1 c.in_err-script.ensures.blamed (λ others x a. (x.script, a.script))
 
 pub returns-in_err-folder-clause-blamed : goal.returns-in_err-folder-clause-blamed
 returns-in_err-folder-clause-blamed c =
-    blame_on c.from_residual-in_err-folder.result c.in_err-folder.field-0.0 (λ (rows : List Row) word. HasWord rows (codes "folder") word) AsksTrace (rows_of (found_of c.args.found.now))
+    blame_on c.from_residual-in_err-folder.result c.in_err-folder.field-0.0 (λ (rows : List Row) path. HasPath rows (codes "folder") path) AsksTrace (rows_of (found_of c.args.found.now))
     c.from_residual-in_err-folder.ensures.1 c.in_err-folder.ensures.blamed (λ others x a. (x.folder, a.folder))
 
 pub returns-in_err-packet_bytes-clause-blamed : goal.returns-in_err-packet_bytes-clause-blamed

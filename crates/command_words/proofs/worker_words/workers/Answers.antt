@@ -1,4 +1,4 @@
-use Rattle.std.proofs.Common.{◌∙◌, inr, Bool, List, Option, option_map, refl, sym, subst, codes, arith}
+use Rattle.std.proofs.Common.{◌∙◌, inl, inr, Bool, List, Option, option_map, refl, sym, subst, codes, arith}
 use Rattle.clap.specs.Words.{found_of, rows_of, Row, Text}
 use Rattle.clap.proofs.WalkLemmas.{first_value-rows}
 use Rattle.command_words.specs.CommandLine.{HasFlag, HasWorkers, SaysQuota}
@@ -43,7 +43,7 @@ returns-in-Some-clause-blamed c =
     inr (
       codes "quota",
       (λ others q alike has. no_workers others c.in-Some.text.now q (alike.1 ∙ off) (alike.0 ∙ said) has),
-      subst (λ (o : Option Text). TellsPart (codes "quota") o c.bad_value.result) (sym said) c.bad_value.ensures,
+      subst (λ (o : Option Text). TellsPart (codes "quota") o c.bad_value.result) (sym said) (inl c.bad_value.ensures),
     )
 
 pub flag-requires : goal.flag-requires
