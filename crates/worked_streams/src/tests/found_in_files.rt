@@ -6,7 +6,7 @@ ghost use Rattle.ctf_types.specs.Allowed.{IsMetadata};
 use crate::tests::expected::same;
 use crate::tests::stream_files::{Source, metadata_of};
 use ctf_types::{Metadata, Text, align_of};
-use packet_reader::{gaps, read_stream, resume_point};
+use packet_reader::{gaps, read_stream, resume_point, resume_point_from};
 use std::alloc::{AllocError, Global};
 use std::test::Fail;
 use worked_fixtures::{CLOCKED, Changes, SMALL, bytes_of, granted};
@@ -159,6 +159,42 @@ static FILES: &[(Source, &str, &str)] = &[
         "8 [] None Some(ResumePoint { stream: None, sequence: 0, discarded: 0, floor: 0 }) Whole []",
     ),
 ];
+
+/// What metadata is read from, the bytes of a file in hexadecimal, and what is found of it with one packet in hand.
+static EARLIER: &[(Source, &str, &str)] = &[
+    // a number of 8 bits that goes round, and a later snapshot and end
+    (
+        Source::Written(CLOCKED, &[]),
+        "c1fc1fc1 00d0 00d0 000000000000000a 000000000000000c 03 fe c1fc1fc1 00d0 00d0 000000000000000c 000000000000000d 05 ff",
+        "EarlierFile { packets: 2, end: Whole, point: Some(ResumePoint { stream: Some(0), sequence: 0, discarded: 5, floor: 13 }) }",
+    ),
+    (
+        Source::Written(SMALL, &[]),
+        "c11ffcc1 80000000 70000000 01020000 c11ffcc1 80000000 70000000 01020000",
+        "EarlierFile { packets: 2, end: Whole, point: Some(ResumePoint { stream: Some(0), sequence: 2, discarded: 0, floor: 0 }) }",
+    ),
+    (
+        Source::Written(SMALL, &[]),
+        "c11ffcc1 80000000 70000000 01020000 c11ffcc1",
+        "EarlierFile { packets: 1, end: Torn(16), point: None }",
+    ),
+];
+
+#[test]
+fn finds_the_point_with_one_packet_in_hand(rt: HostRuntime) -> Result<(), Fail> {
+    for (source, digits, want) in EARLIER {
+        let found = earlier(rt.alloc(), source, digits)?;
+        same(&rt, found.as_str(), *want, *digits);
+    }
+    Ok(())
+}
+
+fn earlier(alloc: Global, source: &Source, digits: &str) -> Result<String, Fail> {
+    let bytes = bytes_of(alloc, digits)?;
+    let metadata = metadata_of(alloc, source)?;
+    let found = resume_point_from(alloc, &metadata, bytes.as_slice())?;
+    Ok(format!(in alloc; "{found:?}")?)
+}
 
 #[test]
 fn finds_what_no_line_says(rt: HostRuntime) -> Result<(), Fail> {
