@@ -5,13 +5,14 @@ mod DoingLaws
 mod EventLaws
 pub mod Escaping
 pub mod Faults
-pub mod FirstHeads
+pub mod FileTurns
 pub mod Fronts
 pub mod GivenLists
 pub mod HeadOrders
 pub mod Listing
 pub mod Numbers
 pub mod Opening
+pub mod PlaceLists
 pub mod Placing
 pub mod Reading
 pub mod Saying

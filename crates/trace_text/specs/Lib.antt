@@ -1,5 +1,6 @@
 pub mod ClosedFiles
 pub mod FileCounts
+pub mod FileTurns
 pub mod Names
 pub mod OpenFiles
 pub mod PrintedFromReaders

@@ -170,6 +170,10 @@ abbrev pub IsWaitingFile : {R : Type 0} → List (OpenFile R) → Option ℕ →
 IsWaitingFile files None = (j : ℕ) (other : OpenFile _) → slice_get files j ≡ Some other → is_waiting other ≡ false
 IsWaitingFile files (Some i) = (i < length files) × ((file : OpenFile _) → slice_get files i ≡ Some file → is_waiting file ≡ true)
 
+-- of each file nothing is in hand yet
+abbrev pub AllWait : {R : Type 0} → List (OpenFile R) → Type 0
+AllWait files = (i : ℕ) (file : OpenFile _) → slice_get files i ≡ Some file → is_waiting file ≡ true
+
 -- ---- what is told
 
 -- some records were told: of all traces that go on they are those before the heads, and their lines were said

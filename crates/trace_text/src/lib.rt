@@ -2,6 +2,7 @@
 #![tactic(auto)]
 
 mod file_counts;
+mod file_turns;
 mod names;
 mod next_step;
 mod open_file;
