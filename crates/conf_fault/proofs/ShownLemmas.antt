@@ -1,83 +1,111 @@
--- How texts are shown byte by byte and character by character, and that what is shown stays on one line.
-use Rattle.std.proofs.Common.{◌≡◌, ◌≢◌, ℕ, ◌/◌, ◌%◌, ◌<◌, ◌≤◌, ◌&&◌, ◌||◌, inl, inr, List, [], ◌∷◌, ◌++◌, true, false, length, take, get_or, refl, sym, ◌∙◌, ap, subst, arith, append-nil}
-use Rattle.std.specs.Prelude.{nat_lt, nat_eq, ◌==◌, codes}
-use Rattle.std.specs.Char.{digit_char}
-use Rattle.std.specs.List.{All, list_all}
-use Rattle.std.proofs.lemmas.Bool.{cases_lt, cond_both}
+-- How texts are shown character by character, and that what is shown stays on one line.
+use Rattle.std.proofs.Common.{◌≡◌, ◌≢◌, ℕ, ◌+◌, ◌/◌, ◌%◌, ◌<◌, ◌≤◌, ◌&&◌, List, [], ◌∷◌, ◌++◌, true, false, length, take, if◌then◌else◌, refl, sym, ◌∙◌, ap, subst, arith, append-nil}
+use Rattle.std.specs.Prelude.{◌==◌, codes, nat_lt, not}
+use Rattle.std.specs.Char.{IsScalar, digit_char}
+use Rattle.std.specs.List.{All, flat_map, list_all}
+use Rattle.std.specs.Str.{IsUtf8, all_scalars, chars}
+use Rattle.std.proofs.lemmas.Bool.{and_parts, cond_both}
 use Rattle.std.proofs.lemmas.Bool.Decides.{nat_tests}
-use Rattle.std.proofs.lemmas.List.Concat.{flat_map-append}
-use Rattle.std.proofs.lemmas.List.Elements.{All-from_get_or, All-tail}
+use Rattle.std.proofs.lemmas.List.Elements.{All-append, All-cons, All-head, All-nil, All-tail}
 use Rattle.std.proofs.lemmas.List.Folds.{list_all-append}
-use Rattle.std.proofs.lemmas.Str.{encode_ascii, encodes-append, inside_one}
-use Rattle.std.specs.Str.{chars}
+use Rattle.std.proofs.lemmas.Str.{IsUtf8-encode, IsUtf8-from_ascii, chars-IsAscii, chars-append, chars-nil, chars_past_char, encodes-append, scalars-chars}
+use Rattle.std.proofs.lemmas.Str.Ascii.{IsAscii-from_all}
 use Rattle.std.proofs.Math.Utf8.{encode, encodes}
-use Rattle.conf_fault.specs.Shown.{is_shown, IsOneLine, shown_byte, shown, cut}
+use Rattle.conf_fault.specs.Shown.{is_shown, IsOneLine, cut, escaped_byte, shown, shown_character, steers}
 
--- ---- a byte, a character
+-- ---- a character
 
-shown_plain : (b : ℕ) → 32 ≤ b → b ≢ 127 → shown_byte b ≡ b ∷ []
-unfolding shown_byte
-shown_plain b h n = grind (arith, nat_tests)
+shown_other : (c : ℕ) → c ≢ 10 → c ≢ 9 → shown_character c ≡ (if steers c then flat_map escaped_byte (encode c) else encode c)
+unfolding shown_character
+shown_other c n t = grind (arith, nat_tests)
 
-shown_same : (bs : List ℕ) → All (λ b. shown_byte b ≡ b ∷ []) bs → shown bs ≡ bs
-shown_same [] h = refl
-shown_same (b ∷ bs) h = ap (λ z. z ++ shown bs) (h 0 b (omega arith)) ∙ ap (λ z. b ∷ z) (shown_same bs (All-tail (λ x. shown_byte x ≡ x ∷ []) b bs h))
+pub shown_steering : (c : ℕ) → c ≢ 10 → c ≢ 9 → steers c ≡ true → shown_character c ≡ flat_map escaped_byte (encode c)
+shown_steering c n t e = shown_other c n t ∙ ap (λ b. if b then flat_map escaped_byte (encode c) else encode c) e
 
--- a character that is no control character is shown as it is: its bytes are above those of ASCII, or it is its only byte
-pub shown_encode : (c : ℕ) → 32 ≤ c → c ≢ 127 → shown (encode c) ≡ encode c
-shown_encode c h n =
-    shown_same (encode c) (All-from_get_or (λ b. shown_byte b ≡ b ∷ []) (encode c) 0 (λ i within. elim (cases_lt (get_or (encode c) i 0) 128) [
-      | inl low ↦ subst (λ b. shown_byte b ≡ b ∷ []) (inside_one c [] (encode c) i (sym (append-nil (encode c))) within low) (shown_plain c h n)
-      | inr high ↦ shown_plain (get_or (encode c) i 0) (omega (arith, high)) (λ e. absurd (omega (arith, high, e)))
-    ]))
-
-pub control_low : (b : ℕ) → (nat_lt b 32 || nat_eq b 127) ≡ true → b < 128
-control_low b e = grind (arith, nat_tests)
-
-control_byte : (c : ℕ) → c ≢ 10 → c ≢ 9 → (nat_lt c 32 || nat_eq c 127) ≡ true → shown_byte c ≡ codes "\\x" ++ (digit_char (c / 16) ∷ digit_char (c % 16) ∷ [])
-unfolding shown_byte
-control_byte c m n k = grind (arith, nat_tests)
-
-pub shown_control : (c : ℕ) → c ≢ 10 → c ≢ 9 → (nat_lt c 32 || nat_eq c 127) ≡ true → shown (encode c) ≡ codes "\\x" ++ (digit_char (c / 16) ∷ digit_char (c % 16) ∷ [])
-shown_control c m n k = ap shown (encode_ascii c (control_low c k)) ∙ ap (λ z. z ++ []) (control_byte c m n k)
-
-digit_byte : (n : ℕ) → n < 16 → encode (digit_char n) ≡ digit_char n ∷ []
-digit_byte n h = encode_ascii (digit_char n) (grind (arith, nat_tests))
-
--- two hexadecimal digits behind `\x`
-pub two_digits : (c d e : ℕ) → c < 128 → d ≡ digit_char (c / 16) → e ≡ digit_char (c % 16) → codes "\\x" ++ encode d ++ encode e ≡ codes "\\x" ++ (digit_char (c / 16) ∷ digit_char (c % 16) ∷ [])
-two_digits c d e h high low = rw (high, low, digit_byte (c / 16) (omega arith), digit_byte (c % 16) (omega arith)) refl
+pub shown_plain : (c : ℕ) → c ≢ 10 → c ≢ 9 → steers c ≡ false → shown_character c ≡ encode c
+shown_plain c n t e = shown_other c n t ∙ ap (λ b. if b then flat_map escaped_byte (encode c) else encode c) e
 
 -- ---- one line
 
-digit_shown : (n : ℕ) → n < 16 → is_shown (digit_char n) ≡ true
-digit_shown n h = grind (arith, nat_tests)
+-- a byte of ASCII that is no control character
+abbrev IsPlain : ℕ → Type 0
+IsPlain b = (b < 128) × (is_shown b ≡ true)
 
-plain_shown : (b : ℕ) → (nat_lt b 32 || nat_eq b 127) ≡ false → is_shown b ≡ true
-plain_shown b e = grind (arith, nat_tests)
+-- a text of which no character steers
+abbrev IsPiece : List ℕ → Type 0
+IsPiece text = IsUtf8 text × (list_all is_shown (chars text) ≡ true)
 
-one_line_byte : (b : ℕ) → IsOneLine (shown_byte b)
-unfolding shown_byte
-one_line_byte b =
-    cond_both (b == 10) _ _ IsOneLine (λ newline. refl) (λ other.
-    cond_both (b == 9) _ _ IsOneLine (λ tab. refl) (λ other.
-    cond_both (nat_lt b 32 || b == 127) _ _ IsOneLine
-    (λ control. let low = control_low b control in rw (digit_shown (b / 16) (omega arith), digit_shown (b % 16) (omega arith)) refl) (λ plain. rw (plain_shown b plain) refl)))
+all_shown : (bs : List ℕ) → All IsPlain bs → list_all is_shown bs ≡ true
+all_shown [] h = refl
+all_shown (b ∷ bs) h = ap (λ x. x && list_all is_shown bs) (All-head IsPlain b bs h).1 ∙ all_shown bs (All-tail IsPlain b bs h)
+
+plain_piece : (bs : List ℕ) → All IsPlain bs → IsPiece bs
+plain_piece bs h =
+    let ascii = IsAscii-from_all bs (λ i d within. (h i d within).0) in
+    (IsUtf8-from_ascii bs ascii, ap (list_all is_shown) (chars-IsAscii bs ascii) ∙ all_shown bs h)
+
+digit_plain : (n : ℕ) → n < 16 → IsPlain (digit_char n)
+digit_plain n h = grind (arith, nat_tests)
+
+escaped_plain : (b : ℕ) → b < 256 → All IsPlain (escaped_byte b)
+escaped_plain b h =
+    let high = digit_char (b / 16) in
+    let low = digit_char (b % 16) in
+    All-cons IsPlain 92 (120 ∷ high ∷ low ∷ []) (omega arith, refl) (All-cons IsPlain 120 (high ∷ low ∷ []) (omega arith, refl)
+    (All-cons IsPlain high (low ∷ []) (digit_plain (b / 16) (omega arith)) (All-cons IsPlain low [] (digit_plain (b % 16) (omega arith)) (All-nil IsPlain))))
+
+each_escaped_plain : (bs : List ℕ) → All (λ b. b < 256) bs → All IsPlain (flat_map escaped_byte bs)
+each_escaped_plain [] h = All-nil IsPlain
+each_escaped_plain (b ∷ bs) h =
+    All-append IsPlain (escaped_byte b) (flat_map escaped_byte bs) (escaped_plain b (All-head (λ x. x < 256) b bs h)) (each_escaped_plain bs (All-tail (λ x. x < 256) b bs h))
+
+below : (c n : ℕ) → nat_lt c n ≡ true → c < n
+below c n e = grind (arith, nat_tests)
+
+-- the bytes of a character
+bytes_fit : (c : ℕ) → c < 65536 → All (λ b. b < 256) (encode c)
+unfolding encode
+bytes_fit c h =
+    let fits = λ (b : ℕ). b < 256 in
+    let last : All fits ((128 + c % 64) ∷ []) = All-cons fits (128 + c % 64) [] (omega arith) (All-nil fits) in
+    let two : All fits ((128 + c / 64 % 64) ∷ (128 + c % 64) ∷ []) = All-cons fits (128 + c / 64 % 64) ((128 + c % 64) ∷ []) (omega arith) last in
+    cond_both (nat_lt c 128) _ _ (All fits) (λ e. All-cons fits c [] (omega (arith, below c 128 e)) (All-nil fits))
+    (λ _. cond_both (nat_lt c 2048) _ _ (All fits) (λ e. All-cons fits (192 + c / 64) ((128 + c % 64) ∷ []) (omega (arith, below c 2048 e)) last)
+    (λ _. cond_both (nat_lt c 65536) _ _ (All fits) (λ e. All-cons fits (224 + c / 4096) ((128 + c / 64 % 64) ∷ (128 + c % 64) ∷ []) (omega (arith, h)) two)
+    (λ _. All-cons fits (240 + c / 262144) ((128 + c / 4096 % 64) ∷ (128 + c / 64 % 64) ∷ (128 + c % 64) ∷ []) (omega (arith, h))
+    (All-cons fits (128 + c / 4096 % 64) ((128 + c / 64 % 64) ∷ (128 + c % 64) ∷ []) (omega arith) two))))
+
+steers_within : (c : ℕ) → steers c ≡ true → c < 65536
+steers_within c e = grind (arith, nat_tests)
+
+chars_encode : (c : ℕ) → IsScalar c → chars (encode c) ≡ c ∷ []
+chars_encode c s = chars_past_char (encode c) [] c (IsUtf8-encode c s) (sym (append-nil (encode c))) ∙ ap (λ cs. c ∷ cs) chars-nil
+
+character_piece : (c : ℕ) → IsScalar c → IsPiece (shown_character c)
+unfolding shown_character
+character_piece c s =
+    cond_both (c == 10) _ _ IsPiece (λ _. plain_piece (codes "\\n") (All-cons IsPlain 92 (110 ∷ []) (omega arith, refl) (All-cons IsPlain 110 [] (omega arith, refl) (All-nil IsPlain))))
+    (λ _. cond_both (c == 9) _ _ IsPiece (λ _. plain_piece (codes "\\t") (All-cons IsPlain 92 (116 ∷ []) (omega arith, refl) (All-cons IsPlain 116 [] (omega arith, refl) (All-nil IsPlain))))
+    (λ _. cond_both (steers c) _ _ IsPiece (λ e. plain_piece (flat_map escaped_byte (encode c)) (each_escaped_plain (encode c) (bytes_fit c (steers_within c e))))
+    (λ e. (IsUtf8-encode c s, ap (list_all is_shown) (chars_encode c s) ∙ ap (λ b. not b && true) e))))
+
+pieces_shown : (cs : List ℕ) → all_scalars cs ≡ true → list_all is_shown (chars (flat_map shown_character cs)) ≡ true
+pieces_shown [] s = ap (list_all is_shown) chars-nil
+pieces_shown (c ∷ cs) s =
+    let both = and_parts _ _ s in
+    let piece = character_piece c both.0 in
+    ap (list_all is_shown) (chars-append (shown_character c) (flat_map shown_character cs) piece.0)
+    ∙ list_all-append is_shown (chars (shown_character c)) (chars (flat_map shown_character cs))
+    ∙ ap (λ x. x && list_all is_shown (chars (flat_map shown_character cs))) piece.1 ∙ pieces_shown cs both.1
 
 -- what is shown stays on one line
-pub one_line_shown : (text : List ℕ) → IsOneLine (shown text)
-one_line_shown [] = refl
-one_line_shown (b ∷ bs) = list_all-append is_shown (shown_byte b) (shown bs) ∙ ap (λ x. x && list_all is_shown (shown bs)) (one_line_byte b) ∙ one_line_shown bs
+pub one_line_shown : (text : List ℕ) → IsUtf8 text → IsOneLine (shown text)
+one_line_shown text u = pieces_shown (chars text) (scalars-chars text u)
 
--- ---- character after character
+-- ---- a text that is cut
 
 pub encodes_more : (front : List ℕ) (c : ℕ) → encodes (front ++ c ∷ []) ≡ encodes front ++ encode c
 encodes_more front c = encodes-append front (c ∷ []) ∙ ap (λ z. encodes front ++ z) (append-nil (encode c))
-
-pub shown_more : (front : List ℕ) (c : ℕ) → shown (encodes (front ++ c ∷ [])) ≡ shown (encodes front) ++ shown (encode c)
-shown_more front c = ap shown (encodes_more front c) ∙ flat_map-append shown_byte (encodes front) (encode c)
-
--- ---- a text that is cut
 
 pub cut_short : (text : List ℕ) → length (chars text) ≤ 60 → cut text ≡ text
 unfolding cut

@@ -1,9 +1,12 @@
 -- What is told of a fault, put together of what the calls say.
-use Rattle.std.proofs.Common.{◌≡◌, ◌≢◌, ◌<◌, ◌≤◌, ◌-◌, arith, decimal, length, take, List, [], ◌∷◌, ◌++◌, ℕ, Bool, true, false, map, refl, sym, ap, subst, append-nil}
-use Rattle.std.specs.Prelude.{not, Option, Some, None, MatchOption, Result, is_ok, OnOk, if◌then◌else◌, codes}
+use Rattle.std.proofs.Common.{◌≡◌, ◌≢◌, ◌<◌, ◌≤◌, ◌-◌, All, arith, decimal, length, take, List, [], ◌∷◌, ◌++◌, ℕ, Bool, true, false, map, refl, sym, ◌∙◌, ap, subst, append-nil}
+use Rattle.std.specs.Prelude.{filter, not, Option, Some, None, MatchOption, Result, is_ok, OnOk, if◌then◌else◌, codes}
 use Rattle.std.specs.Borrow.{Bor}
 use Rattle.std.specs.Str.{bytes_eq}
+use Rattle.std.proofs.lemmas.Bool.{cond_both, true≢false}
 use Rattle.std.proofs.lemmas.Bool.Decides.{nat_tests}
+use Rattle.std.proofs.lemmas.List.Elements.{All-cons, All-nil}
+use Rattle.std.proofs.lemmas.Slice.Eq.{bytes_eq-Decides}
 use Rattle.std.proofs.lemmas.Result.{on_ok_weaker}
 use Rattle.conf_table.specs.declared.place.Place.{Place}
 use Rattle.conf_table.specs.declared.words.Words.{Words}
@@ -18,7 +21,7 @@ use Rattle.conf_tree.specs.declared.fault_kind.FaultKind.TheVariants as kinds
 use Rattle.conf_tree.specs.declared.fault.ConfFault.{ConfFault}
 use Rattle.conf_fault.specs.Explanation.{Adds}
 use Rattle.conf_fault.specs.Expected.{classes_at, expected_words, listed}
-use Rattle.conf_fault.specs.Wanted.{IsChoice, IsHint, IsInRange, IsKnownName, IsNearestIf, IsOneOf, IsTold, IsToldOfKind, PathEnd, end_name, few_listed, named_text, real_hint}
+use Rattle.conf_fault.specs.Wanted.{IsChoice, IsHint, IsInRange, IsKnownName, IsLargestNumber, IsNearestIf, IsOneOf, IsRoom, IsTold, IsToldOfKind, PathEnd, end_name, few_listed, named_text, real_hint}
 use Rattle.conf_fault.proofs.Adding.{added, behind}
 
 abbrev pub texts : List (Bor (List ℕ)) → List (List ℕ)
@@ -40,14 +43,36 @@ chosen text words was mid now told e = (told.0 ++ real_hint text, (text, told.0,
 pub reals : (text : List ℕ) (b : Bool) → bytes_eq text (codes "real") ≡ b → real_hint (Some text) ≡ (if b then codes "; there are no real numbers" else [])
 reals text b e = ap (λ b. if b then codes "; there are no real numbers" else []) e
 
-pub known : (thing was s1 s2 s3 now : List ℕ) (text : Option (List ℕ)) (names : List (List ℕ)) → s1 ≡ was ++ (codes "the name of a " ++ (thing ++ codes " (there are ")) → s2 ≡ s1 ++ few_listed names → s3 ≡ s2 ++ codes ")"
-    → Adds (IsNearestIf text names) s3 now → Adds (IsKnownName thing) was now
-known thing was s1 s2 s3 now text names e f g near =
-    let front = codes "the name of a " ++ (thing ++ codes " (there are ") in (
+pub known : (thing own was s1 s2 s3 now : List ℕ) (text : Option (List ℕ)) (names : List (List ℕ)) → All (λ name. name ≢ own) names → s1 ≡ was ++ (codes "the name of " ++ (thing ++ codes " (there are ")) → s2 ≡ s1 ++ few_listed names → s3 ≡ s2 ++ codes ")"
+    → Adds (IsNearestIf text names) s3 now → Adds (IsKnownName thing own) was now
+known thing own was s1 s2 s3 now text names others e f g near =
+    let front = codes "the name of " ++ (thing ++ codes " (there are ") in (
       front ++ few_listed names ++ codes ")" ++ near.0,
-      (names, text, near.0, near.1, refl),
+      (names, text, near.0, others, near.1, refl),
       behind was s3 now (front ++ few_listed names ++ codes ")") near.0 (behind was s2 s3 (front ++ few_listed names) (codes ")") (behind was s1 s2 front (few_listed names) e f) g) near.2,
     )
+
+-- whether the feature is off, and the number for which there has to be room
+pub room : (feature was mid now : List ℕ) (off : Bool) → mid ≡ was ++ (if off then codes "true, or a field with " else []) → Adds (IsLargestNumber feature) mid now → Adds (IsRoom feature) was now
+room feature was mid now off e largest =
+    let front = if off then codes "true, or a field with " else [] in (
+      front ++ largest.0,
+      (off, largest.0, largest.1, refl),
+      behind was mid now front largest.0 e largest.2,
+    )
+
+pub not_true : (b r : Bool) → r ≡ not b → r ≡ true → b ≡ false
+not_true true r e f = absurd (cc)
+not_true false r e f = refl
+
+-- what is kept of some things is none of this name
+pub kept_others : {X : Type 0} (name_of : X → List ℕ) (own : List ℕ) (xs : List X) → All (λ name. name ≢ own) (map name_of (filter (λ x. not (bytes_eq (name_of x) own)) xs))
+kept_others name_of own [] = All-nil (λ name. name ≢ own)
+kept_others name_of own (x ∷ xs) =
+    cond_both (not (bytes_eq (name_of x) own)) (x ∷ filter (λ x. not (bytes_eq (name_of x) own)) xs) (filter (λ x. not (bytes_eq (name_of x) own)) xs) (λ kept. All (λ name. name ≢ own) (map name_of kept))
+    (λ other. All-cons (λ name. name ≢ own) (name_of x) (map name_of (filter (λ x. not (bytes_eq (name_of x) own)) xs))
+    (λ same. true≢false (sym ((bytes_eq-Decides (name_of x) own).1 same) ∙ not_true (bytes_eq (name_of x) own) _ refl other)) (kept_others name_of own xs))
+    (λ _. kept_others name_of own xs)
 
 -- the names of rows, as the code and as the definition reads them
 pub same_names : (rows : List (Bor (List ℕ) × Presence × Content)) → map (λ x. x.0.now) rows ≡ map (λ r. r.name) (map told_of rows)
@@ -55,10 +80,6 @@ same_names [] = refl
 same_names (r ∷ rs) = ap (λ names. r.0.now ∷ names) (same_names rs)
 
 -- ---- hints
-
-pub not_true : (b r : Bool) → r ≡ not b → r ≡ true → b ≡ false
-not_true true r e f = absurd (cc)
-not_true false r e f = refl
 
 pub not_false : (b r : Bool) → r ≡ not b → r ≡ false → b ≡ true
 not_false true r e f = refl
@@ -100,27 +121,27 @@ in_class content position words was now e f h =
     subst (λ (o : Option Content). Adds (IsInRange o position) was now) (sym e) (subst (λ (ws : List (List ℕ)). Adds (IsChoice ws) was now) f h)
 
 -- of the kinds that have no words of their own, what the table expects is told
-pub told_of_others : (kind : FaultKind) (name : List ℕ) (end : PathEnd) (said : List ℕ) → kind ≢ kinds.Unknown → kind ≢ kinds.OutOfRange → kind ≢ kinds.NoSuchAlias → kind ≢ kinds.NoClock
-    → kind ≢ kinds.FieldTooSmall → kind ≢ kinds.Limit → said ≡ expected_words end.content end.position → IsToldOfKind kind name end said
+pub told_of_others : (kind : FaultKind) (path : List Step) (end : PathEnd) (said : List ℕ) → kind ≢ kinds.Unknown → kind ≢ kinds.OutOfRange → kind ≢ kinds.NoSuchAlias → kind ≢ kinds.NoClock
+    → kind ≢ kinds.FieldTooSmall → kind ≢ kinds.Limit → said ≡ expected_words end.content end.position → IsToldOfKind kind path end said
 unfolding IsToldOfKind
-told_of_others kinds.Unknown name end said a b c d e f is = absurd (a refl)
-told_of_others kinds.OutOfRange name end said a b c d e f is = absurd (b refl)
-told_of_others kinds.NoSuchAlias name end said a b c d e f is = absurd (c refl)
-told_of_others kinds.NoClock name end said a b c d e f is = absurd (d refl)
-told_of_others kinds.FieldTooSmall name end said a b c d e f is = absurd (e refl)
-told_of_others kinds.Limit name end said a b c d e f is = absurd (f refl)
-told_of_others _ name end said a b c d e f is = is
+told_of_others kinds.Unknown path end said a b c d e f is = absurd (a refl)
+told_of_others kinds.OutOfRange path end said a b c d e f is = absurd (b refl)
+told_of_others kinds.NoSuchAlias path end said a b c d e f is = absurd (c refl)
+told_of_others kinds.NoClock path end said a b c d e f is = absurd (d refl)
+told_of_others kinds.FieldTooSmall path end said a b c d e f is = absurd (e refl)
+told_of_others kinds.Limit path end said a b c d e f is = absurd (f refl)
+told_of_others _ path end said a b c d e f is = is
 
 -- the text by the property's name, or what the kind tells where there is none
 pub told_text : (fault : ConfFault) (end : PathEnd) (text : List ℕ) → named_text fault.kind (end_name fault.path) end.content ≡ Some text → IsTold fault end text
-told_text fault end text e = subst (λ (o : Option (List ℕ)). MatchOption o (IsToldOfKind fault.kind (end_name fault.path) end text) (λ said. text ≡ said)) (sym e) refl
+told_text fault end text e = subst (λ (o : Option (List ℕ)). MatchOption o (IsToldOfKind fault.kind fault.path end text) (λ said. text ≡ said)) (sym e) refl
 
-pub told_by_kind : (fault : ConfFault) (end : PathEnd) (said : List ℕ) → named_text fault.kind (end_name fault.path) end.content ≡ None → IsToldOfKind fault.kind (end_name fault.path) end said → IsTold fault end said
-told_by_kind fault end said e is = subst (λ (o : Option (List ℕ)). MatchOption o (IsToldOfKind fault.kind (end_name fault.path) end said) (λ text. said ≡ text)) (sym e) is
+pub told_by_kind : (fault : ConfFault) (end : PathEnd) (said : List ℕ) → named_text fault.kind (end_name fault.path) end.content ≡ None → IsToldOfKind fault.kind fault.path end said → IsTold fault end said
+told_by_kind fault end said e is = subst (λ (o : Option (List ℕ)). MatchOption o (IsToldOfKind fault.kind fault.path end said) (λ text. said ≡ text)) (sym e) is
 
 pub adds_by_kind : {T E : Type 0} (r : Result T E) (fault : ConfFault) (end : PathEnd) (was now : List ℕ) → named_text fault.kind (end_name fault.path) end.content ≡ None
-    → OnOk r (Adds (IsToldOfKind fault.kind (end_name fault.path) end) was now) → OnOk r (Adds (IsTold fault end) was now)
-adds_by_kind r fault end was now e h = on_ok_weaker r (λ (adds : Adds (IsToldOfKind fault.kind (end_name fault.path) end) was now). (adds.0, told_by_kind fault end adds.0 e adds.1, adds.2)) h
+    → OnOk r (Adds (IsToldOfKind fault.kind fault.path end) was now) → OnOk r (Adds (IsTold fault end) was now)
+adds_by_kind r fault end was now e h = on_ok_weaker r (λ (adds : Adds (IsToldOfKind fault.kind fault.path end) was now). (adds.0, told_by_kind fault end adds.0 e adds.1, adds.2)) h
 
 -- ---- names of which there are many
 

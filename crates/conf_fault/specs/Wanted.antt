@@ -1,6 +1,6 @@
 -- What was expected where a fault stands, by the fault's kind: what is told of it, and behind that a hint or none. Kind and path are the fault's own;
 -- where in the table the way over the text ends is not said, so that what is told holds of some end.
-use Rattle.std.specs.Prelude.{◌≡◌, ◌⊎◌, ℕ, ◌+◌, ◌-◌, ◌/◌, ◌<◌, ◌≤◌, min, All, List, [], ◌++◌, reverse, ◌==◌, Option, None, Some, MatchOption, Contains, Bool, true, false, not, ◌&&◌, nat_le, nat_lt, unwrap_or, length, take, map, slice_get, if◌then◌else◌, codes, string_bytes, decimal}
+use Rattle.std.specs.Prelude.{◌≡◌, ◌≢◌, ◌⊎◌, ℕ, ◌+◌, ◌-◌, ◌/◌, ◌<◌, ◌≤◌, min, All, List, [], ◌++◌, reverse, ◌==◌, Option, None, Some, MatchOption, Contains, Bool, true, false, not, ◌&&◌, nat_le, nat_lt, unwrap_or, length, take, map, slice_get, if◌then◌else◌, codes, string_bytes, decimal}
 use Rattle.std.specs.Option.{option_and_then}
 use Rattle.std.specs.List.{list_any, position_from, zip}
 use Rattle.std.specs.Str.{bytes_eq}
@@ -35,6 +35,10 @@ step_name _ = []
 
 abbrev pub end_name : List Step → List ℕ
 end_name path = step_name (slice_get path (length path - 1))
+
+-- the name of the alias of field types into whose value a path leads; empty where it leads into none
+abbrev pub own_alias : List Step → List ℕ
+own_alias path = if bytes_eq (step_name (slice_get path 2)) (codes "$field-type-aliases") then step_name (slice_get path 3) else []
 
 -- ---- the kinds of which the property's name, or what the table says of it, tells all
 
@@ -138,18 +142,29 @@ IsInRange content position said = said ≡ expected_words content position
 abbrev pub few_listed : List (List ℕ) → List ℕ
 few_listed names = if nat_le (length names) 20 then listed names else listed (take 20 names) ++ (codes " and " ++ decimal (length names - 20) ++ codes " more")
 
--- the name of a thing, with those that there are, and the nearest of them or none; which text stands there is not said
-abbrev pub IsKnownName : List ℕ → List ℕ → Type 0
-IsKnownName thing said = (names : List (List ℕ)) × (text : Option (List ℕ)) × (nearest : List ℕ) × IsNearestIf text names nearest
-    × (said ≡ codes "the name of a " ++ (thing ++ codes " (there are ") ++ few_listed names ++ codes ")" ++ nearest)
+-- the name of a thing, with those that there are, and the nearest of them or none; none of them is the one in whose value it would stand; which text
+-- stands there is not said
+abbrev pub IsKnownName : List ℕ → List ℕ → List ℕ → Type 0
+IsKnownName thing own said = (names : List (List ℕ)) × (text : Option (List ℕ)) × (nearest : List ℕ) × All (λ name. name ≢ own) names × IsNearestIf text names nearest
+    × (said ≡ codes "the name of " ++ (thing ++ codes " (there are ") ++ few_listed names ++ codes ")" ++ nearest)
 
-abbrev pub alias_thing : Option Content → List ℕ
-alias_thing (Some (contents.Level high)) = codes "log level alias"
-alias_thing _ = codes "field type alias"
+-- an alias, in the value of one of field types another
+unfoldable pub alias_thing : List ℕ → Option Content → List ℕ
+alias_thing own (Some (contents.Level high)) = codes "a log level alias"
+alias_thing own _ = if length own == 0 then codes "a field type alias" else codes "another field type alias"
 
--- room in a field that is too small
-abbrev pub IsRoom : List ℕ → Type 0
-IsRoom said = (said ≡ codes "room for the largest number that it must hold") ⊎ ((largest : ℕ) × (said ≡ codes "room for the number " ++ decimal largest))
+-- the types that a feature of this name tells apart by their numbers
+abbrev pub numbered_types : List ℕ → List ℕ
+numbered_types feature = if bytes_eq feature (codes "type-id-field-type") then codes "event record types" else codes "data stream types"
+
+-- room for the largest number that a feature of this name has to hold: that of the last of its types; how many they are is not said
+abbrev pub IsLargestNumber : List ℕ → List ℕ → Type 0
+IsLargestNumber feature said = (said ≡ codes "room for the largest number that it must hold")
+    ⊎ ((count : ℕ) × (said ≡ codes "room for the number " ++ (decimal (count - 1) ++ (codes ", since " ++ (decimal count ++ (codes " " ++ (numbered_types feature ++ (codes " have the numbers 0 to " ++ decimal (count - 1)))))))))
+
+-- the feature on, where it is off, and that room
+abbrev pub IsRoom : List ℕ → List ℕ → Type 0
+IsRoom feature said = (off : Bool) × (room : List ℕ) × IsLargestNumber feature room × (said ≡ (if off then codes "true, or a field with " else []) ++ room)
 
 -- how much a value at a place can hold where the table sets no limit to its entries: elements of arrays are counted where no array is around them
 unfoldable pub size_words : Place → List ℕ
@@ -173,15 +188,15 @@ limit_words content position = expected_words content position
 abbrev pub names_of : Place → List (List ℕ)
 names_of holder = map (λ r. r.name) (rows_of holder)
 
--- what is told of a kind, by the name of the last step, where the way ends
-unfoldable pub IsToldOfKind : FaultKind → List ℕ → PathEnd → List ℕ → Type 0
-IsToldOfKind kinds.Unknown name end said = IsOneOf (Some name) (names_of end.holder) said
-IsToldOfKind kinds.OutOfRange name end said = IsInRange end.content end.position said
-IsToldOfKind kinds.NoSuchAlias name end said = IsKnownName (alias_thing end.content) said
-IsToldOfKind kinds.NoClock name end said = IsKnownName (codes "clock type") said
-IsToldOfKind kinds.FieldTooSmall name end said = IsRoom said
-IsToldOfKind kinds.Limit name end said = said ≡ limit_words end.content end.position
-IsToldOfKind _ name end said = said ≡ expected_words end.content end.position
+-- what is told of a kind at the end of a path, where the way ends
+unfoldable pub IsToldOfKind : FaultKind → List Step → PathEnd → List ℕ → Type 0
+IsToldOfKind kinds.Unknown path end said = IsOneOf (Some (end_name path)) (names_of end.holder) said
+IsToldOfKind kinds.OutOfRange path end said = IsInRange end.content end.position said
+IsToldOfKind kinds.NoSuchAlias path end said = IsKnownName (alias_thing (own_alias path) end.content) (own_alias path) said
+IsToldOfKind kinds.NoClock path end said = IsKnownName (codes "a clock type") [] said
+IsToldOfKind kinds.FieldTooSmall path end said = IsRoom (end_name path) said
+IsToldOfKind kinds.Limit path end said = said ≡ limit_words end.content end.position
+IsToldOfKind _ path end said = said ≡ expected_words end.content end.position
 
 -- ---- a hint
 
@@ -215,7 +230,7 @@ IsHint _ path hint = hint ≡ []
 
 -- what is told of a fault: the text of its kind and its property's name, or what its kind tells where the way ends
 abbrev pub IsTold : ConfFault → PathEnd → List ℕ → Type 0
-IsTold fault end said = MatchOption (named_text fault.kind (end_name fault.path) end.content) (IsToldOfKind fault.kind (end_name fault.path) end said) (λ text. said ≡ text)
+IsTold fault end said = MatchOption (named_text fault.kind (end_name fault.path) end.content) (IsToldOfKind fault.kind fault.path end said) (λ text. said ≡ text)
 
 abbrev pub IsToldAndHinted : ConfFault → List ℕ → Type 0
 IsToldAndHinted fault said = (end : PathEnd) × (told : List ℕ) × (hint : List ℕ) × IsTold fault end told × IsHint fault.kind fault.path hint × (said ≡ told ++ hint)

@@ -5,16 +5,16 @@ ghost use Rattle.std.specs.Option.{option_and_then, option_copied};
 ghost use Rattle.std.specs.List.{list_any};
 ghost use Rattle.conf_table.specs.Table.{entries_of};
 ghost use Rattle.conf_fault.specs.Explanation.{Adds, IsWanted, fixed_words, name_words};
-ghost use Rattle.conf_fault.specs.Wanted.{IsChoice, IsClashHint, IsHint, IsInRange, IsKnownName, IsMissingHint, IsOneOf, IsTold, IsToldAndHinted, IsToldOfKind, alias_thing, can_be_whole, end_name as name_of_end, end_of, is_control, limit_words, most_words, named_text, names_of, range_text, size_words};
+ghost use Rattle.conf_fault.specs.Wanted.{IsChoice, IsClashHint, IsHint, IsInRange, IsKnownName, IsMissingHint, IsOneOf, IsTold, IsToldAndHinted, IsToldOfKind, alias_thing as alias_thing_of, can_be_whole, end_name as name_of_end, end_of, is_control, limit_words, most_words, named_text, names_of, range_text, size_words};
 
 use crate::expected::{classes_at, nearest, push_expected, push_nearest, push_words};
 use crate::found::Found;
-use crate::named::{push_known, push_largest_number};
+use crate::named::{push_known, push_room};
+use crate::path::{end_name, own_alias};
 use crate::shown::push_cut;
 use crate::source::Source;
 use conf_table::{Content, Place, content, entries, rows, words_in};
-use conf_tree::FaultKind::{self, *};
-use conf_tree::{ConfFault, Step};
+use conf_tree::{ConfFault, FaultKind, Step};
 use std::alloc::AllocError;
 
 /// What was expected where a fault stands.
@@ -44,16 +44,6 @@ fn push_wanted(said: &mut String, found: &Found<'_>, fault: &ConfFault) -> Resul
     push_hint(said, found, fault, name)
 }
 
-/// The name of the last step.
-fn end_name(path: &[Step]) -> &str
-    ensures { result.now ≡ name_of_end path.now }
-{
-    match path.last() {
-        Some(Step::Key(name)) => name.as_str(),
-        _ => "",
-    }
-}
-
 fn push_told(
     said: &mut String,
     found: &Found<'_>,
@@ -65,25 +55,25 @@ fn push_told(
 {
     match words_here(fault.kind, name, found.content) {
         Some(words) => said.push_str(words),
-        None => push_told_of_kind(said, found, fault, name),
+        None => push_told_of_kind(said, found, fault.kind, fault.path.as_slice()),
     }
 }
 
 fn push_told_of_kind(
     said: &mut String,
     found: &Found<'_>,
-    fault: &ConfFault,
-    name: &str,
+    kind: FaultKind,
+    path: &[Step],
 ) -> Result<(), AllocError>
-    ensures { OnOk result (Adds (IsToldOfKind fault.now.kind name.now (end_of found.now)) (string_bytes said.old) (string_bytes said.new)) }
+    ensures { OnOk result (Adds (IsToldOfKind kind path.now (end_of found.now)) (string_bytes said.old) (string_bytes said.new)) }
 {
-    match fault.kind {
-        Unknown => push_properties(said, found, name),
-        OutOfRange => push_in_range(said, found),
-        NoSuchAlias => push_known_alias(said, found),
-        NoClock => push_known(said, found, "clock type", "clock-types"),
-        FieldTooSmall => push_largest_number(found.source, said, fault.path.as_slice()),
-        Limit => push_limit(said, found),
+    match kind {
+        FaultKind::Unknown => push_properties(said, found, end_name(path)),
+        FaultKind::OutOfRange => push_in_range(said, found),
+        FaultKind::NoSuchAlias => push_known_alias(said, found, own_alias(path)),
+        FaultKind::NoClock => push_known(said, found, "a clock type", "clock-types", ""),
+        FaultKind::FieldTooSmall => push_room(said, found, path),
+        FaultKind::Limit => push_limit(said, found),
         _ => push_expected(said, found),
     }
 }
@@ -95,43 +85,43 @@ pub(crate) fn kind_words(kind: FaultKind) -> (Option<&'static str>, Option<&'sta
     ensures expected { option_copied result.1 ≡ fixed_words kind }
 {
     match kind {
-        Unknown => (Some("unknown property"), None),
-        BadName => (Some("bad name"), None),
-        ReservedName => (
+        FaultKind::Unknown => (Some("unknown property"), None),
+        FaultKind::BadName => (Some("bad name"), None),
+        FaultKind::ReservedName => (
             Some("reserved word"),
             Some("a name that the metadata language does not use itself"),
         ),
-        NameClash => (Some("name is taken"), None),
-        TooDeep => (None, Some("at most 32 levels of objects and lists")),
-        InheritCycle => (
+        FaultKind::NameClash => (Some("name is taken"), None),
+        FaultKind::TooDeep => (None, Some("at most 32 levels of objects and lists")),
+        FaultKind::InheritCycle => (
             None,
             Some("a chain of aliases that ends: this one leads into a circle"),
         ),
-        ZeroSizeRecord => (
+        FaultKind::ZeroSizeRecord => (
             None,
             Some("an integer, an enumeration or a string in its contexts or its payload"),
         ),
-        NoUuid => (
+        FaultKind::NoUuid => (
             None,
             Some(
                 "a UUID of the trace type, or with `auto` one from the caller (--uuid of `metadata` and `trace`)",
             ),
         ),
-        TwoOrders => (
+        FaultKind::TwoOrders => (
             None,
             Some("only one of `trace-byte-order` and `native-byte-order`"),
         ),
-        NotJson
-        | WrongKind
-        | NotWhole
-        | Missing
-        | NoSuchAlias
-        | OutOfRange
-        | FieldTooSmall
-        | NoClock
-        | Limit
-        | TimestampSize
-        | OutOfMemory => (None, None),
+        FaultKind::NotJson
+        | FaultKind::WrongKind
+        | FaultKind::NotWhole
+        | FaultKind::Missing
+        | FaultKind::NoSuchAlias
+        | FaultKind::OutOfRange
+        | FaultKind::FieldTooSmall
+        | FaultKind::NoClock
+        | FaultKind::Limit
+        | FaultKind::TimestampSize
+        | FaultKind::OutOfMemory => (None, None),
     }
 }
 
@@ -141,21 +131,25 @@ fn words_here(kind: FaultKind, name: &str, content: Option<Content>) -> Option<&
     ensures { option_copied result ≡ named_text kind name.now content }
 {
     match kind {
-        Missing if name == "trace-byte-order" => Some(
+        FaultKind::Missing if name == "trace-byte-order" => Some(
             "just one of `trace-byte-order` and `native-byte-order`",
         ),
-        BadName => Some("a letter or `_`, then letters, digits or `_`, 255 bytes at most"),
-        NoClock if name != "$default-clock-type-name" => Some(
+        FaultKind::BadName => Some(
+            "a letter or `_`, then letters, digits or `_`, 255 bytes at most",
+        ),
+        FaultKind::NoClock if name != "$default-clock-type-name" => Some(
             "a `$default-clock-type-name` in this data stream type, or the feature off",
         ),
-        TimestampSize if name == "timestamp-field-type" => Some(
+        FaultKind::TimestampSize if name == "timestamp-field-type" => Some(
             "a field of 8 to 64 bits, fewer than 64 only beside the packet's beginning timestamp, or the feature off",
         ),
-        TimestampSize => Some("a field of 64 bits, or the feature off"),
-        OutOfRange if name == "$is-default" => Some("true at one data stream type at most"),
-        OutOfRange => range_words(name, content),
-        NameClash => Some("a name that nothing else in this structure has"),
-        NotWhole if !is_whole(content) => Some(
+        FaultKind::TimestampSize => Some("a field of 64 bits, or the feature off"),
+        FaultKind::OutOfRange if name == "$is-default" => Some(
+            "true at one data stream type at most",
+        ),
+        FaultKind::OutOfRange => range_words(name, content),
+        FaultKind::NameClash => Some("a name that nothing else in this structure has"),
+        FaultKind::NotWhole if !is_whole(content) => Some(
             "a whole number of 64 bits, without fraction or exponent",
         ),
         _ => None,
@@ -243,14 +237,27 @@ fn push_properties(said: &mut String, found: &Found<'_>, name: &str) -> Result<(
     push_nearest(said, name, names.as_slice())
 }
 
-fn push_known_alias(said: &mut String, found: &Found<'_>) -> Result<(), AllocError>
-    ensures { OnOk result (Adds (IsKnownName (alias_thing found.now.content)) (string_bytes said.old) (string_bytes said.new)) }
+/// Adds the aliases that can stand where none has the name that does; in the value of the alias `own` it is none of them.
+fn push_known_alias(said: &mut String, found: &Found<'_>, own: &str) -> Result<(), AllocError>
+    ensures { OnOk result (Adds (IsKnownName (alias_thing_of own.now found.now.content) own.now) (string_bytes said.old) (string_bytes said.new)) }
 {
-    match found.content {
-        Some(Content::Level { .. }) => {
-            push_known(said, found, "log level alias", "$log-level-aliases")
-        }
-        _ => push_known(said, found, "field type alias", "$field-type-aliases"),
+    let thing = alias_thing(own, found.content);
+    let map = match found.content {
+        Some(Content::Level { .. }) => "$log-level-aliases",
+        _ => "$field-type-aliases",
+    };
+    push_known(said, found, thing, map, own)
+}
+
+/// What an alias is called beside the alias `own`, in whose value its name would stand.
+#[tactic(auto, unfolding(crate::specs::Wanted::alias_thing))]
+fn alias_thing(own: &str, content: Option<Content>) -> &'static str
+    ensures { result.now ≡ alias_thing_of own.now content }
+{
+    match content {
+        Some(Content::Level { .. }) => "a log level alias",
+        _ if own.is_empty() => "a field type alias",
+        _ => "another field type alias",
     }
 }
 
@@ -300,15 +307,15 @@ fn push_hint(
     ensures { OnOk result (Adds (IsHint fault.now.kind fault.now.path) (string_bytes said.old) (string_bytes said.new)) }
 {
     match fault.kind {
-        Missing => push_missing_hint(said, found, fault.path.as_slice(), name),
-        NameClash => push_clash_hint(said, found.source, fault.path.as_slice(), name),
-        Unknown => {
+        FaultKind::Missing => push_missing_hint(said, found, fault.path.as_slice(), name),
+        FaultKind::NameClash => push_clash_hint(said, found.source, fault.path.as_slice(), name),
+        FaultKind::Unknown => {
             if name != "$include" {
                 return Ok(());
             }
             said.push_str("; tools/yaml_to_json puts in what `$include` names")
         }
-        BadName => {
+        FaultKind::BadName => {
             if !name.as_bytes().contains(&b'-') {
                 return Ok(());
             }

@@ -16,7 +16,8 @@ use std::alloc::{AllocError, Global};
 /// Explains the fault of a configuration's text in one line, without its end: `line 2, column 9: trace: 2: expected an object`.
 ///
 /// Lines and columns count from 1, columns in bytes. A value that stands in an alias or in a base is placed there, and the alias is named; what
-/// is missing is placed at its object. Names and values are cut at 60 characters.
+/// is missing is placed at its object. A value is shown as it is written, without the white space between its parts. Names and values are cut at 60
+/// characters.
 pub fn explain_fault(alloc: Global, text: &[u8], fault: &ConfFault) -> Result<String, AllocError>
     ensures explains { IfOk result (λ said. IsExplanation text.now fault.now (string_bytes said)) }
     ensures one_line { IfOk result (λ said. IsOneLine (string_bytes said)) }
@@ -96,12 +97,8 @@ fn push_standing(said: &mut String, found: &Found<'_>, kind: FaultKind) -> Resul
     if !found.is_there {
         return said.push_str("missing");
     }
-    let at = found.layer().at;
-    if let Some(number) = found.source.number_at(at) {
-        return push_cut(said, number);
-    }
-    match found.source.value_of(at)? {
-        Some(value) => push_cut(said, format!(in found.source.alloc; "{value}")?.as_str()),
+    match found.source.written(found.layer().at)? {
+        Some(value) => push_cut(said, value.as_str()),
         None => push_cut(said, "a value"),
     }
 }

@@ -72,7 +72,10 @@ impl<'t> Source<'t> {
         let position = found.content.map_or(Place::Ignored, Content::place);
         let holder = self.class_of(found.layers.as_slice(), position)?;
         let told = match step {
-            Step::Key(name) => content(holder, name.as_str()),
+            Step::Key(name) => {
+                let laid = laid_content(holder, name.as_str(), next.is_some());
+                content(holder, name.as_str()).or(laid)
+            }
             Step::Index(_) => entries(holder).map(|entries| entries.content),
         };
         let inner = self.inside(found.layers.as_slice(), holder, step, next)?;
@@ -101,5 +104,15 @@ impl<'t> Source<'t> {
             }
         }
         Ok(position)
+    }
+}
+
+/// What a property is that is laid over what a field type inherits before its class is looked at: members, and what stands in an element's field type.
+fn laid_content(holder: Place, name: &str, leads_on: bool) -> Option<Content> {
+    match name {
+        _ if !holds_field_type(holder) => None,
+        "members" => content(Place::Structure, name),
+        "element-field-type" if leads_on => content(Place::StaticArray, name),
+        _ => None,
     }
 }

@@ -10,6 +10,7 @@ mod layers;
 mod line_column;
 mod named;
 mod not_json;
+mod path;
 mod shown;
 mod source;
 

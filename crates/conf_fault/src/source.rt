@@ -38,13 +38,25 @@ impl<'t> Source<'t> {
         }
     }
 
-    /// The number at a place, as it is written.
-    pub(crate) fn number_at(&self, at: usize) -> Option<&'t str> {
-        let text = self.text.get(at..)?;
-        match text.first() {
-            Some(b'-' | b'0'..=b'9') => str::from_utf8(&text[..value_length(text)]).ok(),
-            _ => None,
+    /// The value at a place as it is written, without the white space between its parts.
+    pub(crate) fn written(&self, at: usize) -> Result<Option<String>, AllocError> {
+        let text = self.text.get(at..).unwrap_or(&[]);
+        let value = str::from_utf8(&text[..value_length(text)]).unwrap_or("");
+        if value.is_empty() {
+            return Ok(None);
         }
+        let mut written = String::new(self.alloc);
+        let mut quoted = false;
+        let mut escaped = false;
+        for character in value.chars() {
+            if !quoted && matches!(character, ' ' | '\t' | '\n' | '\r') {
+                continue;
+            }
+            quoted ^= character == '"' && !escaped;
+            escaped = quoted && character == '\\' && !escaped;
+            written.push(character)?;
+        }
+        Ok(Some(written))
     }
 
     /// The text that the value at a place is.

@@ -1,6 +1,7 @@
 use Rattle.std.proofs.Common.{◌∙◌, [], List, ℕ, ap, append-nil, refl, string_bytes, subst, sym}
 use Rattle.std.specs.Prelude.{OnOk}
 use Rattle.std.specs.Option.{option_copied}
+use Rattle.conf_tree.specs.declared.step.Step.{Step}
 use Rattle.conf_fault.specs.Explanation.{Adds}
 use Rattle.conf_fault.specs.Wanted.{IsTold, IsToldOfKind, end_of, named_text}
 use Rattle.conf_fault.proofs.Adding.{added}
@@ -20,4 +21,4 @@ returns-in-None c =
     let end = end_of c.args.found.now in
     adds_by_kind c.push_told_of_kind.result fault end _ _
     (ap (λ (n : List ℕ). named_text fault.kind n end.content) (sym c.requires) ∙ sym c.words_here.ensures ∙ ap option_copied c.in-None.is)
-    (subst (λ (n : List ℕ). OnOk c.push_told_of_kind.result (Adds (IsToldOfKind fault.kind n end) (string_bytes c.args.said.now) (string_bytes c.push_told_of_kind.new.said))) c.requires c.push_told_of_kind.ensures)
+    (subst (λ (path : List Step). OnOk c.push_told_of_kind.result (Adds (IsToldOfKind fault.kind path end) (string_bytes c.args.said.now) (string_bytes c.push_told_of_kind.new.said))) c.as_slice.ensures c.push_told_of_kind.ensures)
