@@ -8,7 +8,8 @@ use conf_fault::{explain_fault, on_one_line};
 use conf_tree::ConfFault;
 use std::alloc::{AllocError, Global};
 
-/// The line of what is said of a file: newline, tab and the other control bytes by what stands for them in C, all other bytes as they are.
+/// The line of what is said of a file: control characters, marks that turn the direction of a line and ends of lines by what stands for them in C, all
+/// other characters as they are.
 pub fn fault_line(alloc: Global, file: &str, said: &str) -> Result<Vec<u8>, AllocError>
     ensures { IfOk result (λ line. line.items ≡ line_of file.now said.now) }
 {
