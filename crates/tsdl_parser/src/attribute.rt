@@ -3,7 +3,7 @@
 ghost use Rattle.tsdl_parser.specs.Rules.{shown, Gives, dotted_at, name_at, value_at, attr_behind, attr_at};
 
 use crate::expected::Expected;
-use crate::halt::{Missing, SEMICOLON, back_to, going_on};
+use crate::halt::{Missing, SEMICOLON, back_to, expecting, going_on};
 use crate::parsing::{Read, closed_by, mark_at, next_atom, number_at, word_at};
 use crate::repetition::{Repeated, Start, all_at};
 use ctf_types::Text;
@@ -53,7 +53,19 @@ pub(crate) fn attr_behind(alloc: Global, name: Name, atoms: Atoms<'_>) -> Read<'
 {
     let rest = going_on(mark_at(Mark::Equals, atoms), &[Missing::Zero, SEMICOLON])?;
     let (value, rest) = going_on(value_at(alloc, rest), &[SEMICOLON])?;
-    closed_by(Mark::Semicolon, (Attribute { name, value }, rest))
+    let expected = expected_behind(&value);
+    let closed = closed_by(Mark::Semicolon, (Attribute { name, value }, rest));
+    expecting(closed, expected)
+}
+
+/// What is expected behind the value of an attribute. The word of a structure is a name there.
+fn expected_behind(value: &Value) -> Expected {
+    match value {
+        Value::Name(Name { first, rest }) if rest.is_empty() && first.as_str() == "struct" => {
+            Expected::ScopeMark
+        }
+        Value::Name(_) | Value::Number(_) | Value::Text(_) => Expected::Mark(Mark::Semicolon),
+    }
 }
 
 impl Repeated for Attribute {

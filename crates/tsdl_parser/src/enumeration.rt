@@ -79,3 +79,16 @@ pub(crate) fn entries_at(alloc: Global, atoms: Atoms<'_>) -> Read<'_, Entries>
     };
     Ok((Entries::Listed(first, others, closing), rest))
 }
+
+/// What is expected behind the entries of an enumeration.
+pub(crate) fn expected_behind(entries: &Entries) -> Expected {
+    match entries {
+        Entries::Empty | Entries::Listed(_, _, Closing::Comma) => Expected::Label,
+        Entries::Listed(first, others, Closing::Plain) => {
+            match others.as_slice().last().unwrap_or(first).high {
+                None => Expected::EntryMark,
+                Some(_) => Expected::RangeMark,
+            }
+        }
+    }
+}

@@ -36,6 +36,12 @@ pub enum Expected {
     Label,
     /// The mark behind an entry's label.
     LabelMark,
+    /// What stands behind an entry's only number.
+    EntryMark,
+    /// What stands behind an entry's upper end.
+    RangeMark,
+    /// The mark of a scope, where the one of an attribute stands before a structure.
+    ScopeMark,
     /// The structure of a scope.
     Structure,
     /// The brace behind `struct`.
@@ -65,6 +71,9 @@ impl Expected {
             Expected::MemberName => "the name of a member",
             Expected::Length => "a number or the name of a member",
             Expected::Label => "a label or `}`",
+            Expected::EntryMark => "`,`, `...` or `}`",
+            Expected::RangeMark => "`,` or `}`",
+            Expected::ScopeMark => "`:=` and not `=` before a structure",
             Expected::Structure => "`struct`",
             Expected::Number => "a number",
             Expected::SmallerNumber => "a number up to 2^64 - 1",

@@ -11,6 +11,7 @@ mod laws;
 mod member;
 mod parsing;
 mod repetition;
+mod room;
 
 pub use block::parse;
 pub use expected::Expected;

@@ -2,7 +2,7 @@
 
 ghost use Rattle.tsdl_parser.specs.Rules.{shown, Gives, int_at, enum_at, kind_at, count_at, bracket_at, member_at, align_at, struct_at};
 
-use crate::enumeration::entries_at;
+use crate::enumeration::{entries_at, expected_behind};
 use crate::expected::Expected;
 use crate::halt::{
     CLOSE_BRACE, CLOSE_BRACKET, CLOSE_PARENTHESIS, Missing, NAME, OPEN_BRACE, SEMICOLON, expecting,
@@ -14,9 +14,7 @@ use crate::parsing::{
 use crate::repetition::{Repeated, Start, all_at, braced_at};
 use ctf_types::ListOf;
 use std::alloc::Global;
-use tsdl_grammar::{
-    Atom, Atoms, Attribute, Bracket, Closing, Entries, Kind, Mark, MemberTree, Number, Structure,
-};
+use tsdl_grammar::{Atom, Atoms, Attribute, Bracket, Kind, Mark, MemberTree, Number, Structure};
 
 #[tactic(auto, unfolding(crate::specs::Rules::int_at), using(crate::proofs::Repeated::shortens, crate::proofs::Attributes::attr_spells))]
 fn int_at(alloc: Global, atoms: Atoms<'_>) -> Read<'_, ListOf<Attribute>>
@@ -38,11 +36,7 @@ fn enum_at(alloc: Global, atoms: Atoms<'_>) -> Read<'_, Kind>
     let (attrs, rest) = going_on(int_at(alloc, rest), &[OPEN_BRACE, CLOSE_BRACE])?;
     let inside = going_on(mark_at(Mark::OpenBrace, rest), &[CLOSE_BRACE])?;
     let (entries, rest) = going_on(entries_at(alloc, inside), &[CLOSE_BRACE])?;
-    let expected = match entries {
-        Entries::Empty | Entries::Listed(_, _, Closing::Comma) => Expected::Label,
-        Entries::Listed(_, _, Closing::Plain) => Expected::Mark(Mark::CloseBrace),
-    };
-    let rest = expecting(mark_at(Mark::CloseBrace, rest), expected)?;
+    let rest = expecting(mark_at(Mark::CloseBrace, rest), expected_behind(&entries))?;
     Ok((Kind::Enumeration(attrs, entries), rest))
 }
 

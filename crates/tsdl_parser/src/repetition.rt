@@ -6,6 +6,7 @@ ghost use Rattle.tsdl_parser.specs.Rules.{Atom, shown, Gives, Shortens, many, br
 use crate::enumeration::is_labelled;
 use crate::halt::Unread;
 use crate::parsing::{Read, begins, closed_by, mark_at};
+use crate::room::room_for;
 use ctf_types::ListOf;
 use std::alloc::{AllocError, Global};
 use tsdl_grammar::{Atoms, Mark};
@@ -54,7 +55,7 @@ pub(crate) fn all_at<T: Repeated>(
     requires { Shortens T T.item }
     ensures { Gives (λ x. (x.0, shown x.1)) result (many (starts start) T.item (shown atoms.entry)) }
 {
-    let mut items = Vec::new(alloc);
+    let mut items = Vec::with_capacity(alloc, room_for(start, atoms))?;
     let mut rest = atoms;
     while starts(alloc, start, rest)? {
         let (item, behind) = T::item_at(alloc, rest)?;
@@ -63,7 +64,6 @@ pub(crate) fn all_at<T: Repeated>(
         };
         rest = behind;
     }
-    items.shrink_to_fit();
     Ok((ListOf::from_vec(items), rest))
 }
 

@@ -15,4 +15,4 @@ loop-items-preserved g c =
     rw c.in-Ok.ensures.items (goes_on (starts c.args.start) g.T.Repeated.item c.requires (many (starts c.args.start) g.T.Repeated.item (shown c.args.atoms)) c.loop-items.items.items (shown c.loop-items.rest) c.in_ok-item.item (shown c.in_ok-item.behind) c.loop-items.invariant (sym c.in_ok-starts.ensures ∙ c.if-branch.true) c.in_ok-item.ensures)
 
 pub returns : goal.returns
-returns g c = rw (c.from_vec.ensures, c.shrink_to_fit.ensures.items) (is_done (starts c.args.start) g.T.Repeated.item (many (starts c.args.start) g.T.Repeated.item (shown c.args.atoms)) c.loop-items.items.items (shown c.loop-items.rest) c.loop-items.invariant (sym c.in_ok-starts.ensures ∙ c.if-branch.false))
+returns g c = rw c.from_vec.ensures (is_done (starts c.args.start) g.T.Repeated.item (many (starts c.args.start) g.T.Repeated.item (shown c.args.atoms)) c.loop-items.items.items (shown c.loop-items.rest) c.loop-items.invariant (sym c.in_ok-starts.ensures ∙ c.if-branch.false))
