@@ -1,3 +1,4 @@
+pub mod LeftOut
 pub mod Lists
 pub mod Made
 pub mod Names

@@ -1,19 +1,21 @@
 -- Clock types (barectf 3.1, "Clock type object"), in byte order of their names.
-use Rattle.std.specs.Prelude.{ℕ, pos, true, List, [], ◌∷◌, unwrap_or, codes}
+use Rattle.std.specs.Prelude.{ℕ, pos, List, [], ◌∷◌, unwrap_or, codes}
 use Rattle.serde_json.specs.Data.{object, Members, no_members, member}
 use Rattle.ctf_types.specs.declared.ClockType.{ClockType}
-use Rattle.conf_draft.specs.Lookups.{natural, signed, flag, word, identifier, properties}
+use Rattle.conf_table.specs.declared.place.Place.TheVariants as places
+use Rattle.conf_draft.specs.Defaults.{default_number, number_or_default, flag_or_default}
+use Rattle.conf_draft.specs.Lookups.{signed, word, identifier, properties}
 
 unfoldable pub clock_type : List ℕ → Members → ClockType
 clock_type name ms = record {
   name = name;
   uuid = identifier (codes "uuid") ms;
   description = word (codes "description") ms;
-  frequency = unwrap_or (natural (codes "frequency") ms) 1000000000;
-  precision = unwrap_or (natural (codes "precision") ms) 0;
-  offset_seconds = unwrap_or (signed (codes "seconds") (properties (codes "offset") ms)) (pos 0);
-  offset_cycles = unwrap_or (natural (codes "cycles") (properties (codes "offset") ms)) 0;
-  absolute = unwrap_or (flag (codes "origin-is-unix-epoch") ms) true;
+  frequency = number_or_default places.ClockType (codes "frequency") ms;
+  precision = number_or_default places.ClockType (codes "precision") ms;
+  offset_seconds = unwrap_or (signed (codes "seconds") (properties (codes "offset") ms)) (pos (default_number places.ClockOffset (codes "seconds")));
+  offset_cycles = number_or_default places.ClockOffset (codes "cycles") (properties (codes "offset") ms);
+  absolute = flag_or_default places.ClockType (codes "origin-is-unix-epoch") ms;
 }
 
 abbrev pub clocks_in : Members → List ClockType

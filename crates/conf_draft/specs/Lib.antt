@@ -1,5 +1,6 @@
 pub mod Alignments
 pub mod Clocks
+pub mod Defaults
 pub mod Enumerations
 pub mod Environments
 pub mod Events

@@ -6,8 +6,9 @@ use Rattle.std.proofs.lemmas.Bool.{ltb-true, eqb-true}
 use Rattle.serde_json.specs.Data.{no_items, Members}
 use Rattle.ctf_types.specs.declared.MemberType.{MemberType}
 use Rattle.ctf_types.specs.declared.StructType.{StructType}
+use Rattle.conf_table.specs.declared.place.Place.TheVariants as places
 use Rattle.conf_values.specs.Parts.{proved}
-use Rattle.conf_draft.specs.Alignments.{alignment}
+use Rattle.conf_draft.specs.Defaults.{alignment_or_default}
 use Rattle.conf_draft.specs.Lookups.{object, list}
 use Rattle.conf_draft.specs.Members.{members_behind}
 
@@ -25,7 +26,7 @@ unfoldable pub listed : List ℕ → Members → Option (List (List ℕ × Membe
 listed name ms = members_behind [] (unwrap_or (list name ms) no_items)
 
 unfoldable pub align_of : Members → ℕ
-align_of ms = unwrap_or (alignment (codes "minimum-alignment") ms) 1
+align_of ms = alignment_or_default places.Structure (codes "minimum-alignment") ms
 
 unfoldable pub structure_of : Members → Option StructType
 structure_of ms = option_and_then (λ members. made members (align_for members (align_of ms))) (listed (codes "members") ms)

@@ -3,7 +3,9 @@ ghost use Rattle.std.specs.Prelude.{◌≡◌, ◌++◌, IfOk};
 ghost use Rattle.serde_json.specs.View.{members_view};
 ghost use Rattle.conf_draft.specs.Clocks.{clock_types as clock_types_in, clock_type as clock_type_of};
 
-use crate::lookup::{natural, object_or, text, word};
+use crate::defaults::{flag_or_default, number_or_default};
+use crate::lookup::{object_or, text, word};
+use conf_table::Place;
 use conf_tree::optional;
 use conf_values::parsed;
 use ctf_types::{ClockType, ListOf, Text};
@@ -28,7 +30,7 @@ pub(crate) fn clock_types(
     Ok(clocks)
 }
 
-#[tactic(auto, unfolding(crate::specs::Clocks::clock_type, crate::specs::Lookups::signed, crate::specs::Lookups::flag))]
+#[tactic(auto, unfolding(crate::specs::Clocks::clock_type, crate::specs::Lookups::signed))]
 fn clock_type(
     alloc: Global,
     name: &str,
@@ -44,14 +46,12 @@ fn clock_type(
         name,
         uuid: word(members, "uuid").and_then(|word| parsed(word)),
         description,
-        frequency: natural(members, "frequency").unwrap_or(1_000_000_000),
-        precision: natural(members, "precision").unwrap_or(0),
+        frequency: number_or_default(Place::ClockType, members, "frequency"),
+        precision: number_or_default(Place::ClockType, members, "precision"),
         offset_seconds: optional(offset, "seconds")
             .and_then(Value::as_i64)
             .unwrap_or(0),
-        offset_cycles: natural(offset, "cycles").unwrap_or(0),
-        absolute: optional(members, "origin-is-unix-epoch")
-            .and_then(Value::as_bool)
-            .unwrap_or(true),
+        offset_cycles: number_or_default(Place::ClockOffset, offset, "cycles"),
+        absolute: flag_or_default(Place::ClockType, members, "origin-is-unix-epoch"),
     })
 }

@@ -3,23 +3,33 @@ ghost use Rattle.std.specs.Prelude.{◌≡◌, Some, IsSome, IfOk};
 ghost use Rattle.serde_json.specs.View.{members_view};
 ghost use Rattle.conf_draft.specs.Features.{number_type, magic_type, byte_type, header as header_in, context as context_in, event_header as event_header_in, feature as feature_in, identifier as identifier_in, byte_of as byte_of_array, size as size_in, mapped as mapped_of, timestamp as timestamp_in};
 
+use crate::defaults::{Given, is_on};
 use crate::integer::integer;
 use crate::lookup::object;
+use conf_table::Place;
 use conf_tree::optional;
 use ctf_types::{Base, ContextFeatures, EventFeatures, HeaderFeatures, IntType, Text};
 use serde_json::{Map, Value};
 use std::alloc::{AllocError, Global};
 
-/// The fields of the packet header. An identifier is on by default where the trace type has one.
+/// The fields of the packet header, where the trace type may have an identifier.
 #[tactic(auto, unfolding(crate::specs::Features::header))]
 pub(crate) fn header(features: &Map<String, Value>, has_uuid: bool) -> HeaderFeatures
     requires { IsSome (header_in has_uuid (members_view features.now.entries)) }
     ensures { header_in has_uuid (members_view features.now.entries) ≡ Some result }
 {
+    let place = Place::TraceFeatures;
+    let given = Given::of_trace(has_uuid);
     HeaderFeatures {
-        magic: feature(features, "magic-field-type", true, magic()),
-        uuid: identifier(features, "uuid-field-type", has_uuid),
-        stream_id: feature(features, "data-stream-type-id-field-type", true, number()),
+        magic: feature(place, features, "magic-field-type", given, magic()),
+        uuid: identifier(place, features, "uuid-field-type", given),
+        stream_id: feature(
+            place,
+            features,
+            "data-stream-type-id-field-type",
+            given,
+            number(),
+        ),
     }
 }
 
@@ -33,20 +43,29 @@ pub(crate) fn context(
     requires { IsSome (context_in clock.now (members_view packet.now.entries)) }
     ensures { IfOk result (λ f. context_in clock.now (members_view packet.now.entries) ≡ Some f) }
 {
-    let begin = timestamp(alloc, packet, "beginning-timestamp-field-type", clock)?;
-    let end = timestamp(alloc, packet, "end-timestamp-field-type", clock)?;
+    let place = Place::PacketFeatures;
+    let given = Given::of_stream(clock);
+    let begin = timestamp(
+        alloc,
+        place,
+        packet,
+        "beginning-timestamp-field-type",
+        clock,
+    )?;
+    let end = timestamp(alloc, place, packet, "end-timestamp-field-type", clock)?;
     Ok(ContextFeatures {
-        packet_size: size(packet, "total-size-field-type"),
-        content_size: size(packet, "content-size-field-type"),
+        packet_size: size(place, packet, "total-size-field-type", given),
+        content_size: size(place, packet, "content-size-field-type", given),
         timestamp_begin: begin,
         timestamp_end: end,
         events_discarded: feature(
+            place,
             packet,
             "discarded-event-records-counter-snapshot-field-type",
-            true,
+            given,
             number(),
         ),
-        packet_seq_num: feature(packet, "sequence-number-field-type", false, number()),
+        packet_seq_num: feature(place, packet, "sequence-number-field-type", given, number()),
     })
 }
 
@@ -60,9 +79,11 @@ pub(crate) fn event_header(
     requires { IsSome (event_header_in clock.now (members_view event_record.now.entries)) }
     ensures { IfOk result (λ f. event_header_in clock.now (members_view event_record.now.entries) ≡ Some f) }
 {
-    let timestamp = timestamp(alloc, event_record, "timestamp-field-type", clock)?;
+    let place = Place::EventRecordFeatures;
+    let given = Given::of_stream(clock);
+    let timestamp = timestamp(alloc, place, event_record, "timestamp-field-type", clock)?;
     Ok(EventFeatures {
-        id: feature(event_record, "type-id-field-type", true, number()),
+        id: feature(place, event_record, "type-id-field-type", given, number()),
         timestamp,
     })
 }
@@ -88,34 +109,40 @@ fn byte() -> IntType
     IntType::new(8, 8, false, Base::Dec).unwrap()
 }
 
-/// The type of the field that a feature is, where it is on: its own, or this one.
+/// The type of the field that a feature of an object at this place is, where it is on: its own, or this one.
 #[tactic(auto, unfolding(crate::specs::Features::feature))]
 fn feature(
+    place: Place,
     members: &Map<String, Value>,
     name: &str,
-    by_default: bool,
+    given: Given,
     otherwise: IntType,
 ) -> Option<IntType>
-    requires { IsSome (feature_in name.now by_default otherwise (members_view members.now.entries)) }
-    ensures { feature_in name.now by_default otherwise (members_view members.now.entries) ≡ Some result }
+    requires { IsSome (feature_in place name.now given otherwise (members_view members.now.entries)) }
+    ensures { feature_in place name.now given otherwise (members_view members.now.entries) ≡ Some result }
 {
     match optional(members, name) {
         Some(Value::Bool(on)) => on.then_some(otherwise),
         Some(Value::Object(own)) => Some(integer(false, own)),
-        _ => by_default.then_some(otherwise),
+        _ => is_on(place, name, given).then_some(otherwise),
     }
 }
 
 /// The type of each byte of an identifier, where it is on.
 #[tactic(auto, unfolding(crate::specs::Features::identifier))]
-fn identifier(members: &Map<String, Value>, name: &str, by_default: bool) -> Option<IntType>
-    requires { IsSome (identifier_in name.now by_default (members_view members.now.entries)) }
-    ensures { identifier_in name.now by_default (members_view members.now.entries) ≡ Some result }
+fn identifier(
+    place: Place,
+    members: &Map<String, Value>,
+    name: &str,
+    given: Given,
+) -> Option<IntType>
+    requires { IsSome (identifier_in place name.now given (members_view members.now.entries)) }
+    ensures { identifier_in place name.now given (members_view members.now.entries) ≡ Some result }
 {
     match optional(members, name) {
         Some(Value::Bool(on)) => on.then_some(byte()),
         Some(Value::Object(array)) => Some(byte_of(array)),
-        _ => by_default.then_some(byte()),
+        _ => is_on(place, name, given).then_some(byte()),
     }
 }
 
@@ -130,25 +157,26 @@ fn byte_of(array: &Map<String, Value>) -> IntType
 
 /// The type of a size, which is always on.
 #[tactic(auto, unfolding(crate::specs::Features::size))]
-fn size(members: &Map<String, Value>, name: &str) -> IntType
-    requires { IsSome (size_in name.now (members_view members.now.entries)) }
-    ensures { size_in name.now (members_view members.now.entries) ≡ Some result }
+fn size(place: Place, members: &Map<String, Value>, name: &str, given: Given) -> IntType
+    requires { IsSome (size_in place name.now given (members_view members.now.entries)) }
+    ensures { size_in place name.now given (members_view members.now.entries) ≡ Some result }
 {
-    feature(members, name, true, number()).unwrap_or(number())
+    feature(place, members, name, given, number()).unwrap_or(number())
 }
 
-/// The type of a timestamp, where it is on: by default where there is a default clock, whose values it has.
+/// The type of a timestamp, where it is on. It has the values of the default clock, where there is one.
 #[tactic(auto, unfolding(crate::specs::Features::timestamp))]
 fn timestamp(
     alloc: Global,
+    place: Place,
     members: &Map<String, Value>,
     name: &str,
     clock: &Option<Text>,
 ) -> Result<Option<IntType>, AllocError>
-    requires { IsSome (timestamp_in name.now clock.now (members_view members.now.entries)) }
-    ensures { IfOk result (λ t. timestamp_in name.now clock.now (members_view members.now.entries) ≡ Some t) }
+    requires { IsSome (timestamp_in place name.now clock.now (members_view members.now.entries)) }
+    ensures { IfOk result (λ t. timestamp_in place name.now clock.now (members_view members.now.entries) ≡ Some t) }
 {
-    match feature(members, name, clock.is_some(), number()) {
+    match feature(place, members, name, Given::of_stream(clock), number()) {
         Some(integer) => Ok(Some(mapped(alloc, clock, integer)?)),
         None => Ok(None),
     }

@@ -2,6 +2,7 @@
 #![tactic(auto)]
 
 mod clock_type;
+mod defaults;
 mod draft;
 mod enumeration;
 mod environment;
@@ -9,6 +10,7 @@ mod event_type;
 mod features;
 mod field_type;
 mod integer;
+mod laws;
 mod lookup;
 mod members;
 mod stream_type;
@@ -16,4 +18,5 @@ mod structure;
 mod trace;
 
 pub use draft::Draft;
+pub use laws::{integers_by_rows, sizes_by_rows};
 pub use trace::draft_of;

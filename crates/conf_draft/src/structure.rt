@@ -3,8 +3,10 @@ ghost use Rattle.std.specs.Prelude.{◌≡◌, Some, IsSome, IfOk};
 ghost use Rattle.serde_json.specs.View.{members_view};
 ghost use Rattle.conf_draft.specs.Structures.{made as made_of, structure as structure_in};
 
-use crate::lookup::{alignment, object};
+use crate::defaults::alignment_or_default;
+use crate::lookup::object;
 use crate::members::listed;
+use conf_table::Place;
 use ctf_types::{Members, StructType};
 use serde_json::{Map, Value};
 use std::alloc::{AllocError, Global};
@@ -22,7 +24,7 @@ pub(crate) fn structure(
     let Some(members) = object(members, name) else {
         return Ok(made(Members::new(alloc), 1));
     };
-    let align = alignment(members, "minimum-alignment").unwrap_or(1);
+    let align = alignment_or_default(Place::Structure, members, "minimum-alignment");
     let members = listed(alloc, members, "members")?;
     let align = if members.is_empty() { 1 } else { align };
     Ok(made(members, align))
