@@ -1,17 +1,19 @@
 -- What a value without a flaw is, and what is told of each flaw of a value.
-use Rattle.std.proofs.Common.{cond, ◌≡◌, ◌&&◌, ◌++◌, inl, inr, ℕ, suc, List, [], ◌∷◌, map, Option, Some, None, is_some, Bool, true, false, true≢false, refl, sym, ap, ◌∙◌, subst, ◌<◌, ◌+◌, ◌⊎◌, Err, arith, ◌||◌, Ok, nat_cmp}
+use Rattle.std.proofs.Common.{cond, ◌≡◌, ◌&&◌, ◌++◌, inl, inr, ℕ, suc, List, [], ◌∷◌, map, Option, Some, None, is_some, Bool, true, false, not, true≢false, refl, sym, ap, ◌∙◌, subst, ◌<◌, ◌+◌, ◌⊎◌, Err, arith, ◌||◌, Ok, nat_cmp, nat_lt, length, Vec, Global}
 use Rattle.std.proofs.lemmas.Bool.{or_cases, and_parts, cases_Bool, or_parts, and_left, and_right, and_from}
 use Rattle.std.specs.{Prelude.⊤, Borrow.Bor, BTreeMap.{is_at, insert_entry}, Cmp.Lexicographic.slice_cmp, Map.lookup}
 use Rattle.serde_json.specs.{Data.{Data, null, string, array, object, Items, no_items, item, Members, no_members, member, put}, Find.{get_member, get_item}}
-use Rattle.serde_json.proofs.Views.{get_member-put, get_member-put_other}
+use Rattle.serde_json.specs.{View.view, declared.value.Value.{Value, Array}}
+use Rattle.serde_json.proofs.Views.{get_member-put, get_member-put_other, items_len-items_view, view-Array}
 use Rattle.conf_tree.specs.{Flaw.{key, index, within, Flaw, Place as Step, here}, Walk.{HasMember, refusal}}
-use Rattle.conf_tree.specs.declared.fault_kind.FaultKind.TheVariants.{WrongKind, NoSuchAlias, NameClash}
+use Rattle.conf_tree.specs.declared.fault_kind.FaultKind.{FaultKind}
+use Rattle.conf_tree.specs.declared.fault_kind.FaultKind.TheVariants.{WrongKind, NoSuchAlias, NameClash, Limit}
 use Rattle.conf_table.specs.declared.place.Place.{Place}
 use Rattle.conf_table.specs.declared.place.Place.TheVariants as places
-use Rattle.conf_inherit.specs.{FieldPlaces.{place_under, place_of_items, names_alias, names_member_type, lists_members, is_entry}, Names.{entries_of, NoClash}}
-use Rattle.conf_inherit.specs.Flaws.{is_wrong, is_no_entry, is_no_member, is_unknown, own_flaws, base_flaws, inner_flaws, item_flaws, member_flaws, flaws, mark, mark_names}
+use Rattle.conf_inherit.specs.{FieldPlaces.{place_under, place_of_items, names_type, names_member_type, is_base_name, lists_members, lists_extra_members, is_entry}, Names.{entries_of, NoClash}}
+use Rattle.conf_inherit.specs.Flaws.{is_wrong, is_no_entry, is_no_member, known_in, name_fault, is_crowded, fault_or, own_flaws, limits, is_alone, alone_flaws, is_outside, inner_flaws, item_flaws, member_flaws, value_flaws, mark, mark_names}
 use Rattle.conf_inherit.specs.{Named.{Names, all_named, all_named_in_items, all_named_in_members, has}}
-use Rattle.conf_inherit.specs.{Faults.{Leads, HasEntry, FlawHolds}, Circle.{Mentions, MentionsInItems, MentionsInMembers}, SeenNames.members_named}
+use Rattle.conf_inherit.specs.{Faults.{Leads, HasEntry, Tells, FlawHolds}, Circle.{Mentions, MentionsInItems, MentionsInMembers}, SeenNames.members_named}
 use Rattle.conf_inherit.proofs.{FieldPlaceLemmas.{list_place, entry_list}, LayingLemmas.{get_other, same, other, meets, stands}}
 
 pub part_empty : {A B : Type 0} (f : A → B) (xs : List A) (ys : List B) → map f xs ++ ys ≡ [] → (xs ≡ []) × (ys ≡ [])
@@ -29,23 +31,25 @@ pub some_of : {A : Type 0} (o : Option A) → is_some o ≡ true → (x : A) × 
 some_of None h = absurd (true≢false (sym h))
 some_of (Some x) h = (x, refl)
 
-none_refused : (a b c : Bool) → cond a (here WrongKind ∷ []) (cond b (here NoSuchAlias ∷ []) (cond c (here NameClash ∷ []) [])) ≡ [] → (a ≡ false) × (b ≡ false) × (c ≡ false)
-none_refused a b c e = grind arith
+none_refused : (a : Bool) (o : Option FaultKind) (b c : Bool) → cond a (here WrongKind ∷ []) (fault_or o (cond b (here NameClash ∷ []) (cond c (here Limit ∷ []) []))) ≡ [] → (a ≡ false) × (o ≡ None) × (b ≡ false) × (c ≡ false)
+none_refused true o b c e = absurd cc
+none_refused false (Some kind) b c e = absurd cc
+none_refused false None b c e = grind arith
 
--- a value without a flaw of its own is not of a wrong kind, its name is known, and not taken
-pub record OwnSound (al : Members) (s : Place) (taken : Bool) (v : Data) : Type 0 where
+-- a value without a flaw of its own is not of a wrong kind, its name is known, and not taken, nor has it too many members
+pub record OwnSound (ask : List ℕ → Option FaultKind) (s : Place) (taken : Bool) (v : Data) : Type 0 where
   pub right : is_wrong s v ≡ false
-  pub known : is_unknown al s v ≡ false
+  pub known : name_fault ask s v ≡ None
   pub free : taken ≡ false
+  pub few : is_crowded s v ≡ false
 
-pub own_sound : (al : Members) (s : Place) (taken : Bool) (v : Data) → own_flaws al s taken v ≡ [] → OwnSound al s taken v
+pub own_sound : (ask : List ℕ → Option FaultKind) (s : Place) (taken : Bool) (v : Data) → own_flaws ask s taken v ≡ [] → OwnSound ask s taken v
 unfolding own_flaws
-own_sound al s taken v h = let none = none_refused (is_wrong s v) (is_unknown al s v) taken h in record { right = none.0; known = none.1; free = none.2 }
+own_sound ask s taken v h = let none = none_refused (is_wrong s v) (name_fault ask s v) taken (is_crowded s v) h in record { right = none.0; known = none.1; free = none.2; few = none.3 }
 
 -- a name that is asked passes a test that every name in a value passes
 pub passes_text : (p : List ℕ → Bool) (s : Place) (n : List ℕ) → Names s → all_named p s (string n) ≡ true → p n ≡ true
-passes_text p s n (inl is) h = rw is at h
-passes_text p s n (inr is) h = elim (cases_Bool (names_alias s)) [ inl e ↦ rw e at h | inr e ↦ rw (e, is) at h ]
+passes_text p s n is h = rw is at h
 
 -- an entry without a flaw is an object of one property
 pub single_entry : (v : Data) → is_wrong places.Entry v ≡ false → is_no_entry v ≡ false
@@ -73,33 +77,35 @@ apart_more n d seen es h a = record {
   new = λ q f. get_other q n d es (some_or_none n seen h q f) ∙ a.new q (ap is_some (get_member-put_other q n null seen (some_or_none n seen h q f)) ∙ f);
 }
 
-module _ (al : Members) (rs : Option Members) where
-  apart_at : (s : Place) (i : ℕ) (seen : Members) (v : Data) (es : Items) → is_no_entry v ≡ false → inner_flaws al rs places.Entry seen v ≡ [] → (Apart (mark v seen) (entries_of es)) → Apart seen (entries_of (item v es))
+module _ (ask : List ℕ → Option FaultKind) (rs : Option Members) (outside : Bool) where
+  apart_at : (s : Place) (i : ℕ) (seen : Members) (v : Data) (es : Items) → is_no_entry v ≡ false → inner_flaws ask rs outside places.Entry seen v ≡ [] → (Apart (mark v seen) (entries_of es)) → Apart seen (entries_of (item v es))
   unfolding is_entry
   apart_at s i seen (object (member n d no_members)) es single h a =
       let own = (joined_empty _ _ (joined_empty _ _ (part_empty (within (key n)) _ _ h).0).0).0 in
-      let free : has seen n ≡ false = (own_sound al (place_under places.Entry n) (is_entry places.Entry && has seen n) d own).free in
+      let free : has seen n ≡ false = (own_sound ask (place_under places.Entry n) (is_entry places.Entry && has seen n) d own).free in
       apart_more n d seen (entries_of es) free a
   apart_at s i seen (object (member n d (member m e ms))) es single h a = absurd (true≢false single)
   apart_at s i seen (object no_members) es single h a = absurd (true≢false single)
   apart_at s i seen _ es single h a = absurd (true≢false single)
 
-  apart_entries : (s : Place) (i : ℕ) (seen : Members) (es : Items) → place_of_items s ≡ places.Entry → item_flaws al rs s i seen es ≡ [] → Apart seen (entries_of es)
+  apart_entries : (s : Place) (i : ℕ) (seen : Members) (es : Items) → place_of_items s ≡ places.Entry → item_flaws ask rs outside s i seen es ≡ [] → Apart seen (entries_of es)
   apart_entries s i seen no_items place h = record { distinct = tt; new = λ n f. refl }
   apart_entries s i seen (item v es) place h =
       let (mine, later) = part_empty (within (index i)) _ _ h in
-      let (own, inner) = joined_empty _ _ (subst (λ x. flaws al rs x false seen v ≡ []) place mine) in
-      apart_at s i seen v es (single_entry v (own_sound al places.Entry false v own).right) inner (apart_entries s (suc i) (mark v seen) es place later)
+      let (own, inner) = joined_empty _ _ (subst (λ x. value_flaws ask rs outside x false seen v ≡ []) place mine) in
+      apart_at s i seen v es (single_entry v (own_sound ask places.Entry false v own).right) inner (apart_entries s (suc i) (mark v seen) es place later)
 
 -- a value has no flaw of its own, nor one inside
 pub record SoundAt (al : Members) (s : Place) (v : Data) : Type 0 where
+  pub resolved : Option Members
+  pub outside : Bool
   pub taken : Bool
   pub seen : Members
-  pub sound : flaws al None s taken seen v ≡ []
+  pub sound : value_flaws (known_in al) resolved outside s taken seen v ≡ []
 
 -- so the entries of a members list have names of their own
 pub sound_entries : (al : Members) (s : Place) (es : Items) → lists_members s ≡ true → SoundAt al s (array es) → NoClash (entries_of es)
-sound_entries al s es is h = (apart_entries al None s 0 no_members es (list_place s is) (joined_empty _ _ h.sound).1).distinct
+sound_entries al s es is h = (apart_entries (known_in al) h.resolved h.outside s 0 no_members es (list_place s is) (joined_empty _ _ h.sound).1).distinct
 
 -- Each flaw that is listed holds at its path.
 
@@ -176,38 +182,69 @@ pub none_seen : (n : List ℕ) → has no_members n ≡ true → ⊥
 none_seen n h = true≢false (sym h)
 
 -- what is told of a flaw in a part is told of it in the whole, and it is told of each flaw that a value has by itself
-pub record IsTold (al : Members) (rs : Option Members) (P : Place → Data → Flaw → Type 0) : Type 0 where
+pub record IsTold (ask : List ℕ → Option FaultKind) (rs : Option Members) (top : Bool) (P : Place → Data → Flaw → Type 0) : Type 0 where
   pub in_object : (s : Place) (k : List ℕ) (d : Data) (ms : Members) (f : Flaw) → HasMember k d ms → P (place_under s k) d f → P s (object ms) (within (key k) f)
   pub in_list : (s : Place) (i : ℕ) (d : Data) (es : Items) (f : Flaw) → get_item i es ≡ Some d → P (place_of_items s) d f → P s (array es) (within (index i) f)
   pub wrong : (s : Place) (v : Data) → is_wrong s v ≡ true → P s v (here WrongKind)
-  pub unknown : (s : Place) (v : Data) → is_unknown al s v ≡ true → P s v (here NoSuchAlias)
+  pub misnamed : (s : Place) (v : Data) (kind : FaultKind) → name_fault ask s v ≡ Some kind → P s v (here kind)
+  pub crowded : (s : Place) (v : Data) → is_crowded s v ≡ true → P s v (here Limit)
   pub clash : (s : Place) (es : Items) (i j : ℕ) (n : List ℕ) → lists_members s ≡ true → j < i → HasEntry j n es → HasEntry i n es → P s (array es) (within (index i) (within (key n) (here NameClash)))
-  pub bases : (s : Place) (k : List ℕ) (d : Data) → Each (P (place_under s k) d) (base_flaws rs s k d)
+  pub alone : (s : Place) (k : List ℕ) (d : Data) → is_alone top s k ≡ true → Each (P (place_under s k) d) (limits rs (place_under s k) d)
 
--- each flaw holds at its path, where the limits that are listed of the values of `$inherit` do
-pub holds_told : (al : Members) (rs : Option Members) → ((s : Place) (k : List ℕ) (d : Data) → Each (FlawHolds al (place_under s k) d) (base_flaws rs s k d)) → IsTold al rs (FlawHolds al)
-holds_told al rs bases = record {
-  in_object = holds_in_object al;
-  in_list = holds_in_list al;
-  wrong = λ s v is. inl (s, v, (refl, refl), inl is);
-  unknown = λ s v is. inl (s, v, (refl, refl), inl is);
-  clash = λ s es i j n lists before first second. inr (inl (refl, ([], s, es, j, i, n, refl, (refl, refl), lists, before, first, second)));
-  bases = bases;
-}
+-- what is said of each kind that a flaw of a value may have, or else the flaw holds at its path
+abbrev pub HoldsOr : (FaultKind → Type 0) → Members → Place → Data → Flaw → Type 0
+HoldsOr Q al s v f = Q f.kind ⊎ FlawHolds al s v f
 
-module _ (al : Members) (rs : Option Members) (P : Place → Data → Flaw → Type 0) (told : IsTold al rs P) where
+-- it holds where the limits that are listed of field types do, and each name that is wrong is no alias's
+module _ (Q : FaultKind → Type 0) (al : Members) (ask : List ℕ → Option FaultKind) (names : (n : List ℕ) (kind : FaultKind) → ask n ≡ Some kind → Q kind ⊎ ((kind ≡ NoSuchAlias) × (has al n ≡ false))) where
+  misnamed_told : (s : Place) (v : Data) (kind : FaultKind) → name_fault ask s v ≡ Some kind → HoldsOr Q al s v (here kind)
+  misnamed_told s (string n) kind h = elim (cases_Bool (names_type s)) [
+    | inl is ↦ elim (names n kind (rw is at h)) [
+      | inl q ↦ inl q
+      | inr (one, none) ↦ inr (inl (s, string n, (refl, refl), inl (subst (λ k. Tells al k s (string n)) (sym one) (rw (is, none) refl))))
+    ]
+    | inr is ↦ absurd (let bad : None ≡ Some kind = rw is at h in cc)
+  ]
+  misnamed_told s _ kind h = absurd cc
+
+  pub holds_told : (rs : Option Members) → ((s : Place) (k : List ℕ) (d : Data) → is_alone true s k ≡ true → Each (FlawHolds al (place_under s k) d) (limits rs (place_under s k) d)) → IsTold ask rs true (HoldsOr Q al)
+  holds_told rs alone = record {
+    in_object = λ s k d ms f there h. elim h [ inl q ↦ inl q | inr x ↦ inr (holds_in_object al s k d ms f there x) ];
+    in_list = λ s i d es f there h. elim h [ inl q ↦ inl q | inr x ↦ inr (holds_in_list al s i d es f there x) ];
+    wrong = λ s v is. inr (inl (s, v, (refl, refl), inl is));
+    misnamed = misnamed_told;
+    crowded = λ s v is. inr (inl (s, v, (refl, refl), inl is));
+    clash = λ s es i j n lists before first second. inr (inr (inl (refl, ([], s, es, j, i, n, refl, (refl, refl), lists, before, first, second))));
+    alone = λ s k d is. each_along (λ f x. inr x) (alone s k d is);
+  }
+
+more_alone : (base out more type : Bool) → (out ≡ true → more ≡ true) → (base || (out && type)) ≡ true → (base || (more && type)) ≡ true
+more_alone true out more type less h = refl
+more_alone false true more type less h = rw (less refl) h
+more_alone false false more type less h = absurd (true≢false (sym h))
+
+module _ (ask : List ℕ → Option FaultKind) (rs : Option Members) (top : Bool) (P : Place → Data → Flaw → Type 0) (told : IsTold ask rs top P) where
   -- it is told of a flaw that a value has by itself, or its name is taken
-  own_told : (s : Place) (taken : Bool) (v : Data) → Each (λ f. P s v f ⊎ ((f ≡ here NameClash) × (taken ≡ true))) (own_flaws al s taken v)
+  own_told : (s : Place) (taken : Bool) (v : Data) → Each (λ f. P s v f ⊎ ((f ≡ here NameClash) × (taken ≡ true))) (own_flaws ask s taken v)
   unfolding own_flaws
-  own_told s taken v = go (is_wrong s v) refl (is_unknown al s v) refl taken
+  own_told s taken v = go (is_wrong s v) refl (name_fault ask s v) refl taken (is_crowded s v) refl
     where
-      go : (a : Bool) → is_wrong s v ≡ a → (b : Bool) → is_unknown al s v ≡ b → (c : Bool) → Each (λ f. P s v f ⊎ ((f ≡ here NameClash) × (c ≡ true))) (own_flaws al s c v)
-      go true a b b' c = rw a (a_flaw (inl (told.wrong s v a)) no_flaw)
-      go false a true b c = rw (a, b) (a_flaw (inl (told.unknown s v b)) no_flaw)
-      go false a false b true = rw (a, b) (a_flaw (inr (refl, refl)) no_flaw)
-      go false a false b false = rw (a, b) no_flaw
+      go : (a : Bool) → is_wrong s v ≡ a → (o : Option FaultKind) → name_fault ask s v ≡ o → (c d : Bool) → is_crowded s v ≡ d → Each (λ f. P s v f ⊎ ((f ≡ here NameClash) × (c ≡ true))) (own_flaws ask s c v)
+      go true a o b c d d' = rw a (a_flaw (inl (told.wrong s v a)) no_flaw)
+      go false a (Some kind) b c d d' = rw (a, b) (a_flaw (inl (told.misnamed s v kind b)) no_flaw)
+      go false a None b true d d' = rw (a, b) (a_flaw (inr (refl, refl)) no_flaw)
+      go false a None b false true d = rw (a, b, d) (a_flaw (inl (told.crowded s v d)) no_flaw)
+      go false a None b false false d = rw (a, b, d) no_flaw
 
-  pub of_itself : (s : Place) (v : Data) → Each (P s v) (own_flaws al s false v)
+  -- and of the limit of a field type that is no part of another
+  alone_told : (outside : Bool) → (outside ≡ true → top ≡ true) → (s : Place) (k : List ℕ) (d : Data) → Each (P (place_under s k) d) (alone_flaws rs outside s k d)
+  unfolding alone_flaws
+  alone_told outside less s k d = elim (cases_Bool (is_alone outside s k)) [
+    | inl is ↦ rw is (told.alone s k d (more_alone (is_base_name s k) outside top (names_type (place_under s k)) less is))
+    | inr is ↦ rw is no_flaw
+  ]
+
+  pub of_itself : (s : Place) (v : Data) → Each (P s v) (own_flaws ask s false v)
   of_itself s v = each_along (λ f h. elim h [ inl x ↦ x | inr bad ↦ absurd (true≢false (sym bad.1)) ]) (own_told s false v)
 
   -- a flaw of an item is told of the list
@@ -223,38 +260,33 @@ module _ (al : Members) (rs : Option Members) (P : Place → Data → Flaw → T
   name_told s ms seen k d m f (inl x) = inl (told.in_object s k d ms f m x)
   name_told s ms seen k d m f (inr (clash, both)) = let (entry, there) = and_parts (is_entry s) (has seen k) both in inr (k, d, ms, refl, m, entry, there, ap (within (key k)) clash)
 
-  -- a flaw of an entry, with the names of the entries before it, is told of the list
-  pub entry_told : (s : Place) (es : Items) (i : ℕ) (seen : Members) (e : Data) → get_item i es ≡ Some e → Seen es i seen → Each (λ f. P (place_of_items s) e f ⊎ Taken (place_of_items s) seen e f) (inner_flaws al rs (place_of_items s) seen e)
-      → Each (λ f. P s (array es) (within (index i) f)) (own_flaws al (place_of_items s) false e ++ inner_flaws al rs (place_of_items s) seen e)
-  entry_told s es i seen e there before inner =
-      joined (each_along (λ f x. told.in_list s i e es f there x) (of_itself (place_of_items s) e)) (each_along (item_told s es i seen e there before) inner)
-
   mutual
-    pub inner_told : (v : Data) (s : Place) (seen : Members) → Each (λ f. P s v f ⊎ Taken s seen v f) (inner_flaws al rs s seen v)
-    inner_told (array es) s seen = each_along (λ f x. inl x) (items_told es s es 0 no_members (aligned_all es) (λ n b. absurd (none_seen n b)))
-    inner_told (object ms) s seen = members_told ms s ms seen (λ k d m. m)
-    inner_told _ s seen = no_flaw
+    inner_told : (v : Data) (outside : Bool) → (outside ≡ true → top ≡ true) → (s : Place) (seen : Members) → Each (λ f. P s v f ⊎ Taken s seen v f) (inner_flaws ask rs outside s seen v)
+    inner_told (array es) outside less s seen = each_along (λ f x. inl x) (items_told es outside less s es 0 no_members (aligned_all es) (λ n b. absurd (none_seen n b)))
+    inner_told (object ms) outside less s seen = members_told ms outside less s ms seen (λ k d m. m)
+    inner_told _ outside less s seen = no_flaw
 
-    items_told : (rest : Items) (s : Place) (es : Items) (i : ℕ) (seen : Members) → Aligned es i rest → Seen es i seen → Each (P s (array es)) (item_flaws al rs s i seen rest)
-    items_told no_items s es i seen left before = no_flaw
-    items_told (item e rest) s es i seen left before =
+    items_told : (rest : Items) (outside : Bool) → (outside ≡ true → top ≡ true) → (s : Place) (es : Items) (i : ℕ) (seen : Members) → Aligned es i rest → Seen es i seen → Each (P s (array es)) (item_flaws ask rs outside s i seen rest)
+    items_told no_items outside less s es i seen left before = no_flaw
+    items_told (item e rest) outside less s es i seen left before =
         let there = aligned_here es i e rest left in
-        joined (part (index i) (entry_told s es i seen e there before (inner_told e (place_of_items s) seen)))
-        (items_told rest s es (suc i) (mark e seen) (aligned_next es i e rest left) (seen_next_at es i e seen there before))
+        joined (part (index i) (joined (each_along (λ f x. told.in_list s i e es f there x) (of_itself (place_of_items s) e)) (each_along (item_told s es i seen e there before) (inner_told e outside less (place_of_items s) seen))))
+        (items_told rest outside less s es (suc i) (mark e seen) (aligned_next es i e rest left) (seen_next_at es i e seen there before))
 
-    members_told : (rest : Members) (s : Place) (ms : Members) (seen : Members) → ((k : List ℕ) (d : Data) → HasMember k d rest → HasMember k d ms) → Each (λ f. P s (object ms) f ⊎ Taken s seen (object ms) f) (member_flaws al rs s seen rest)
-    members_told no_members s ms seen sub = no_flaw
-    members_told (member k d rest) s ms seen sub =
+    members_told : (rest : Members) (outside : Bool) → (outside ≡ true → top ≡ true) → (s : Place) (ms : Members) (seen : Members) → ((k : List ℕ) (d : Data) → HasMember k d rest → HasMember k d ms)
+        → Each (λ f. P s (object ms) f ⊎ Taken s seen (object ms) f) (member_flaws ask rs outside s seen rest)
+    members_told no_members outside less s ms seen sub = no_flaw
+    members_told (member k d rest) outside less s ms seen sub =
         let there = sub k d (inl (refl, refl)) in
         joined (part (key k) (joined (joined
         (each_along (name_told s ms seen k d there) (own_told (place_under s k) (is_entry s && has seen k) d))
-        (each_along (λ f h. elim h [ inl x ↦ inl (told.in_object s k d ms f there x) | inr bad ↦ absurd (none_seen bad.0 bad.6) ]) (inner_told d (place_under s k) no_members)))
-        (each_along (λ f x. inl (told.in_object s k d ms f there x)) (told.bases s k d))))
-        (members_told rest s ms seen (λ q e m. sub q e (inr m)))
+        (each_along (λ f h. elim h [ inl x ↦ inl (told.in_object s k d ms f there x) | inr bad ↦ absurd (none_seen bad.0 bad.6) ]) (inner_told d (is_outside outside (place_under s k)) (λ h. less (and_parts outside (not (names_type (place_under s k))) h).0) (place_under s k) no_members)))
+        (each_along (λ f x. inl (told.in_object s k d ms f there x)) (alone_told outside less s k d))))
+        (members_told rest outside less s ms seen (λ q e m. sub q e (inr m)))
 
   -- it is told of each flaw of a value, with no entry before it
-  pub flaws_told : (s : Place) (v : Data) → Each (P s v) (own_flaws al s false v ++ inner_flaws al rs s no_members v)
-  flaws_told s v = joined (of_itself s v) (each_along (λ f h. elim h [ inl x ↦ x | inr bad ↦ absurd (none_seen bad.0 bad.6) ]) (inner_told v s no_members))
+  pub flaws_told : (outside : Bool) → (outside ≡ true → top ≡ true) → (s : Place) (v : Data) → Each (P s v) (value_flaws ask rs outside s false no_members v)
+  flaws_told outside less s v = joined (of_itself s v) (each_along (λ f h. elim h [ inl x ↦ x | inr bad ↦ absurd (none_seen bad.0 bad.6) ]) (inner_told v outside less s no_members))
 
 -- The names of aliases in a value: where one test passes and another doesn't, and that a value without a flaw
 -- names aliases alone.
@@ -272,7 +304,7 @@ abbrev pub Blocks : (List ℕ → Bool) → Place → Data → Type 0
 Blocks p s v = (m : List ℕ) × Mentions m s v × (p m ≡ false)
 
 blocks_text : (p : List ℕ → Bool) (s : Place) (n : List ℕ) → all_named p s (string n) ≡ false → Blocks p s (string n)
-blocks_text p s n h = elim (cases_Bool (names_alias s || names_member_type s)) [ inl e ↦ (n, (or_cases (names_alias s) (names_member_type s) e, refl), rw e at h) | inr e ↦ absurd (true≢false (rw e at h)) ]
+blocks_text p s n h = elim (cases_Bool (names_type s)) [ inl e ↦ (n, (e, refl), rw e at h) | inr e ↦ absurd (true≢false (rw e at h)) ]
 
 mutual
   decided : (p : List ℕ → Bool) (v : Data) (s : Place) → Decided p (all_named p s v) (λ m. Mentions m s v)
@@ -301,30 +333,30 @@ blocked p v s h = elim (decided p v s) [ inl all ↦ absurd (true≢false (sym a
 
 -- a text without a flaw passes a test that all aliases pass
 module _ (al : Members) (rs : Option Members) (p : List ℕ → Bool) (passes : (n : List ℕ) → has al n ≡ true → p n ≡ true) where
-  named_text : (s : Place) (taken : Bool) (n : List ℕ) → own_flaws al s taken (string n) ≡ [] → all_named p s (string n) ≡ true
-  named_text s taken n h = elim (cases_Bool (names_alias s || names_member_type s)) [
-    | inl is ↦ elim (cases_Bool (has al n)) [ inl e ↦ rw is (passes n e) | inr e ↦ (let known = (own_sound al s taken (string n) h).known in absurd (true≢false (rw (is, e) at known))) ]
+  named_text : (s : Place) (taken : Bool) (n : List ℕ) → own_flaws (known_in al) s taken (string n) ≡ [] → all_named p s (string n) ≡ true
+  named_text s taken n h = elim (cases_Bool (names_type s)) [
+    | inl is ↦ elim (cases_Bool (has al n)) [ inl e ↦ rw is (passes n e) | inr e ↦ (let known = (own_sound (known_in al) s taken (string n) h).known in let bad : Some NoSuchAlias ≡ None = rw (is, e) at known in absurd cc) ]
     | inr is ↦ rw is refl
   ]
 
   mutual
-    pub named : (v : Data) (s : Place) (taken : Bool) (seen : Members) → flaws al rs s taken seen v ≡ [] → all_named p s v ≡ true
-    named (string n) s taken seen h = named_text s taken n (joined_empty _ _ h).0
-    named (array es) s taken seen h = named_items es s 0 no_members (joined_empty _ _ h).1
-    named (object ms) s taken seen h = named_members ms s seen (joined_empty _ _ h).1
-    named _ s taken seen h = refl
+    pub named : (v : Data) (outside : Bool) (s : Place) (taken : Bool) (seen : Members) → value_flaws (known_in al) rs outside s taken seen v ≡ [] → all_named p s v ≡ true
+    named (string n) outside s taken seen h = named_text s taken n (joined_empty _ _ h).0
+    named (array es) outside s taken seen h = named_items es outside s 0 no_members (joined_empty _ _ h).1
+    named (object ms) outside s taken seen h = named_members ms outside s seen (joined_empty _ _ h).1
+    named _ outside s taken seen h = refl
 
-    named_items : (es : Items) (s : Place) (i : ℕ) (seen : Members) → item_flaws al rs s i seen es ≡ [] → all_named_in_items p (place_of_items s) es ≡ true
-    named_items no_items s i seen h = refl
-    named_items (item v es) s i seen h =
+    named_items : (es : Items) (outside : Bool) (s : Place) (i : ℕ) (seen : Members) → item_flaws (known_in al) rs outside s i seen es ≡ [] → all_named_in_items p (place_of_items s) es ≡ true
+    named_items no_items outside s i seen h = refl
+    named_items (item v es) outside s i seen h =
         let (mine, later) = part_empty (within (index i)) _ _ h in
-        and_from (all_named p (place_of_items s) v) (all_named_in_items p (place_of_items s) es) (named v (place_of_items s) false seen mine) (named_items es s (suc i) (mark v seen) later)
+        and_from (all_named p (place_of_items s) v) (all_named_in_items p (place_of_items s) es) (named v outside (place_of_items s) false seen mine) (named_items es outside s (suc i) (mark v seen) later)
 
-    named_members : (ms : Members) (s : Place) (seen : Members) → member_flaws al rs s seen ms ≡ [] → all_named_in_members p s ms ≡ true
-    named_members no_members s seen h = refl
-    named_members (member k d ms) s seen h =
+    named_members : (ms : Members) (outside : Bool) (s : Place) (seen : Members) → member_flaws (known_in al) rs outside s seen ms ≡ [] → all_named_in_members p s ms ≡ true
+    named_members no_members outside s seen h = refl
+    named_members (member k d ms) outside s seen h =
         let (mine, later) = part_empty (within (key k)) _ _ h in
-        and_from (all_named p (place_under s k) d) (all_named_in_members p s ms) (named d (place_under s k) _ no_members (joined_empty _ _ mine).0) (named_members ms s seen later)
+        and_from (all_named p (place_under s k) d) (all_named_in_members p s ms) (named d (is_outside outside (place_under s k)) (place_under s k) _ no_members (joined_empty _ _ mine).0) (named_members ms outside s seen later)
 
 -- names that pass a test pass each that is passed more often
 pub named_along : (p q : List ℕ → Bool) → ((n : List ℕ) → p n ≡ true → q n ≡ true) → (s : Place) (v : Data) → all_named p s v ≡ true → all_named q s v ≡ true
@@ -349,3 +381,8 @@ noted (e ∷ es) k v = elim (stands k.now e.0.now) [ inl is ↦ rw is refl | inr
 pub looked_for : (n : List ℕ) (es : List (Bor (List ℕ) × ⊤)) → is_some (lookup (is_at (λ k. slice_cmp nat_cmp n k.now)) es) ≡ is_some (get_member n (members_named es))
 looked_for n [] = refl
 looked_for n (e ∷ es) = elim (stands n e.0.now) [ inl is ↦ rw is (looked_for n es) | inr (inl is) ↦ rw is refl | inr (inr is) ↦ rw is (looked_for n es) ]
+
+-- ---- a list that is counted
+
+pub counted : (s : Place) (v : Value) (vs : Vec Value Global) (n : ℕ) (extras : Bool) → extras ≡ lists_extra_members s → extras ≡ true → v ≡ Array vs → n ≡ length vs.items → nat_lt 256 n ≡ is_crowded s (view v)
+counted s v vs n extras at are is many = rw (ap view is ∙ view-Array vs, items_len-items_view vs.items, ← at, are, many) refl

@@ -4,7 +4,7 @@ use Rattle.std.proofs.lemmas.Slice.Eq.{bytes_eq-Decides}
 use Rattle.serde_json.specs.Data.{Data, Members, no_members, member}
 use Rattle.conf_table.specs.{declared.place.Place.Place, Table.{rows_of, entries_of, content_under, place_in}}
 use Rattle.conf_table.specs.declared.place.Place.TheVariants as places
-use Rattle.conf_inherit.specs.FieldPlaces.{field_place, place_under, place_in_type, place_of_items, names_alias, names_member_type, is_base_name, lists_members, is_entry, inherit_name, field_type_name}
+use Rattle.conf_inherit.specs.FieldPlaces.{field_place, place_under, place_in_type, place_of_items, names_alias, names_member_type, names_type, is_base_name, lists_members, is_entry, inherit_name, field_type_name}
 use Rattle.conf_inherit.specs.{Looks.base_of, Resolution.{trace_name, type_name, aliases_name}}
 use Rattle.conf_tree.specs.Walk.{HasMember}
 
@@ -66,6 +66,10 @@ type_is_no_base = refl
 pub alias_field : names_alias places.FieldType ≡ true
 unfolding names_alias
 alias_field = refl
+
+pub alias_named : names_type places.FieldType ≡ true
+unfolding names_alias
+alias_named = refl
 
 -- an object inherits only where a field type stands, and the two places lead on alike
 pub record SamePlace (s : Place) : Type 0 where

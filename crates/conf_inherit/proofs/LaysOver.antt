@@ -1,6 +1,6 @@
 -- A value laid over what stands for other values is looked up among itself and those values.
 use Rattle.std.proofs.Common.{arith, ◌≡◌, ℕ, suc, List, [], ◌∷◌, Option, Some, None, Bool, true, false, refl, sym, ap, ◌∙◌, subst, if◌then◌else◌, true≢false, inl, inr, bytes_eq}
-use Rattle.std.proofs.lemmas.{Bool.{and_parts, cases_Bool}, Option.same_Some}
+use Rattle.std.proofs.lemmas.{Bool.{and_parts, cases_Bool, or_left, or_right}, Option.same_Some}
 use Rattle.std.specs.List.{list_any}
 use Rattle.serde_json.specs.{Data.{Data, string, array, object, Items, no_items, item, Members, no_members, member}, Find.get_member}
 use Rattle.conf_table.specs.declared.place.Place.{Place}
@@ -9,7 +9,7 @@ use Rattle.conf_inherit.specs.FieldPlaces.{place_under, place_of_items, is_base_
 use Rattle.conf_inherit.specs.Laying.{lay, has_entry, lay_base, lay_members, lay_over, lay_over_member, lay_new, lay_new_member, members_below}
 use Rattle.conf_inherit.specs.Looks.{Chain, Looks, looks, Entries, no_entry, an_entry, base_of, if_objects, values_at, AreResolved, nothing, alias, member_alias, heir, own, a_list, plain, Shows, a_scalar, an_object, the_members, a_join, if_lists, IsPlain}
 use Rattle.conf_inherit.specs.Names.{NoClash, properties_of, items_in, entries_of, entry_values, join_items, map_items, IsInOrder, names_of, new_names, cons_some, values_in, member_names, joined}
-use Rattle.conf_inherit.specs.{Flaws.{flaws, item_flaws, member_flaws, mark}, Named.{Names, all_named, all_named_in_items, all_named_in_members, has}}
+use Rattle.conf_inherit.specs.{Flaws.{known_in, is_outside, item_flaws, member_flaws, value_flaws, mark}, Named.{Names, all_named, all_named_in_items, all_named_in_members, has}}
 use Rattle.conf_inherit.proofs.LayingLemmas.{cases_Option, has_found, each_has, same, other, meets, get_other, get_same, lay_base-own, lay_base-heir, in_order_lay, lay_members-base, lay_members-absent, lay_members-found, AllEntries, all_along, over_entries, over_found, new_entries, entry_found, all_joined, has_entry_names, over_absent, entry_names, entries_joined, found_each, no_values, some_is_none}
 use Rattle.conf_inherit.proofs.SizeLemmas.{NoLarger, NoLargerItems, unchanged, items_through, one_more, next_value, further_value, turned_items, none_more, joined_behind, joined_larger, item_first, covered}
 use Rattle.conf_inherit.proofs.FieldPlaceLemmas.{base_named, list_place, entry_place, inheriting_place, alias_place, member_value_place, member_type_place, type_is_no_base, alias_field, base_place, SamePlace}
@@ -136,29 +136,30 @@ module _ (al done : Members) (P : Place → Data → Type 0) (of_plain : (s : Pl
     pub of_sound : (v : Data) (s : Place) → SoundAt al s v → all_named (has done) s v ≡ true → P s v
     of_sound (string n) s h named = of_text s n (λ names. some_of (get_member n done) (passes_text (has done) s n names named))
     of_sound (array es) s h named =
-        of_list s es (λ is. sound_entries al s es is h) (λ is. entry_found (λ n d. P places.Member d) (entries_of es) (of_entries es s 0 no_members (list_place s is) (joined_empty _ _ h.sound).1 named))
-    of_sound (object ms) s h named = of_object s ms (λ k d there. each_has (λ k d. P (place_under s k) d) ms k d (of_members ms s h.seen (joined_empty _ _ h.sound).1 named) there)
+        of_list s es (λ is. sound_entries al s es is h) (λ is. entry_found (λ n d. P places.Member d) (entries_of es) (of_entries es h.resolved h.outside s 0 no_members (list_place s is) (joined_empty _ _ h.sound).1 named))
+    of_sound (object ms) s h named = of_object s ms (λ k d there. each_has (λ k d. P (place_under s k) d) ms k d (of_members ms h.resolved h.outside s h.seen (joined_empty _ _ h.sound).1 named) there)
     of_sound _ s h named = of_plain s _ tt
 
-    of_members : (ms : Members) (s : Place) (seen : Members) → member_flaws al None s seen ms ≡ [] → all_named_in_members (has done) s ms ≡ true → AllEntries (λ k d. P (place_under s k) d) ms
-    of_members no_members s seen h named = tt
-    of_members (member k d ms) s seen h named =
+    of_members : (ms : Members) (resolved : Option Members) (outside : Bool) (s : Place) (seen : Members) → member_flaws (known_in al) resolved outside s seen ms ≡ [] → all_named_in_members (has done) s ms ≡ true → AllEntries (λ k d. P (place_under s k) d) ms
+    of_members no_members resolved outside s seen h named = tt
+    of_members (member k d ms) resolved outside s seen h named =
         let (mine, later) = part_empty (within (key k)) _ _ h in
         let parts = and_parts (all_named (has done) (place_under s k) d) (all_named_in_members (has done) s ms) named in
-        (of_sound d (place_under s k) (record { taken = _; seen = no_members; sound = (joined_empty _ _ mine).0 }) parts.0, of_members ms s seen later parts.1)
+        let sound = (joined_empty _ _ mine).0 in
+        (of_sound d (place_under s k) (record { resolved = resolved; outside = is_outside outside (place_under s k); taken = _; seen = no_members; sound = sound }) parts.0, of_members ms resolved outside s seen later parts.1)
 
-    of_entries : (es : Items) (s : Place) (i : ℕ) (seen : Members) → place_of_items s ≡ places.Entry → item_flaws al None s i seen es ≡ [] → all_named_in_items (has done) (place_of_items s) es ≡ true → AllEntries (λ n d. P places.Member d) (entries_of es)
-    of_entries no_items s i seen place h named = tt
-    of_entries (item v es) s i seen place h named =
+    of_entries : (es : Items) (resolved : Option Members) (outside : Bool) (s : Place) (i : ℕ) (seen : Members) → place_of_items s ≡ places.Entry → item_flaws (known_in al) resolved outside s i seen es ≡ [] → all_named_in_items (has done) (place_of_items s) es ≡ true → AllEntries (λ n d. P places.Member d) (entries_of es)
+    of_entries no_items resolved outside s i seen place h named = tt
+    of_entries (item v es) resolved outside s i seen place h named =
         let (mine, later) = part_empty (within (index i)) _ _ h in
         let parts = and_parts (all_named (has done) (place_of_items s) v) (all_named_in_items (has done) (place_of_items s) es) named in
         all_joined (λ n d. P places.Member d) (properties_of v) (entries_of es)
-        (of_entry v seen (subst (λ t. flaws al None t false seen v ≡ []) place mine) (subst (λ t. all_named (has done) t v ≡ true) place parts.0)) (of_entries es s (suc i) (mark v seen) place later parts.1)
+        (of_entry v resolved outside seen (subst (λ t. value_flaws (known_in al) resolved outside t false seen v ≡ []) place mine) (subst (λ t. all_named (has done) t v ≡ true) place parts.0)) (of_entries es resolved outside s (suc i) (mark v seen) place later parts.1)
 
-    of_entry : (v : Data) (seen : Members) → flaws al None places.Entry false seen v ≡ [] → all_named (has done) places.Entry v ≡ true → AllEntries (λ n d. P places.Member d) (properties_of v)
-    of_entry (object ms) seen h named =
-        all_along (λ k d. P (place_under places.Entry k) d) (λ n d. P places.Member d) (λ k d x. subst (λ t. P t d) (entry_place k) x) ms (of_members ms places.Entry seen (joined_empty _ _ h).1 named)
-    of_entry _ seen h named = tt
+    of_entry : (v : Data) (resolved : Option Members) (outside : Bool) (seen : Members) → value_flaws (known_in al) resolved outside places.Entry false seen v ≡ [] → all_named (has done) places.Entry v ≡ true → AllEntries (λ n d. P places.Member d) (properties_of v)
+    of_entry (object ms) resolved outside seen h named =
+        all_along (λ k d. P (place_under places.Entry k) d) (λ n d. P places.Member d) (λ k d x. subst (λ t. P t d) (entry_place k) x) ms (of_members ms resolved outside places.Entry seen (joined_empty _ _ h).1 named)
+    of_entry _ resolved outside seen h named = tt
 
 -- ---- members lists and other lists
 
@@ -219,9 +220,9 @@ module _ (al done : Members) where
 
     lays_text : (s : Place) (n : List ℕ) → (Names s → (r : Data) × (get_member n done ≡ Some r)) → Lays al done s (string n)
     lays_text s n ready vs base stands = elim (cases_Bool (names_alias s)) [
-      | inl is ↦ (let (r, f) = ready (inl is) in rw (is, f) (text_alias s n r vs is f))
+      | inl is ↦ (let (r, f) = ready (or_left (names_alias s) (names_member_type s) is) in rw (is, f) (text_alias s n r vs is f))
       | inr off ↦ elim (cases_Bool (names_member_type s)) [
-        | inl is ↦ (let (r, f) = ready (inr is) in let place = member_value_place s is in
+        | inl is ↦ (let (r, f) = ready (or_right (names_alias s) (names_member_type s) is) in let place = member_value_place s is in
             rw (off, is, f) (subst (λ x. Looks al x (string n ∷ vs) (object (member field_type_name r no_members))) (sym place) (text_member n r vs (subst (λ x. names_member_type x ≡ true) place is) f)))
         | inr none ↦ (let plain_text : IsPlain s (string n) = (off, none) in rw (off, none) (looks (plain plain_text) (a_scalar plain_text)))
       ]

@@ -1,62 +1,69 @@
 -- What is said of a value whose names are all resolved is said of it too where more aliases are resolved.
 use Rattle.std.proofs.Common.{cond, if◌then◌else◌, ◌||◌, ◌≡◌, ◌&&◌, ◌++◌, ℕ, suc, List, Option, Some, None, is_some, Bool, true, false, not, refl, ap, ◌∙◌, subst, ◌⊎◌, inl, inr, ◌↔◌, [], ◌∷◌, Result, Ok, Err, nat_lt, true≢false, sym, arith}
-use Rattle.std.proofs.lemmas.Bool.{and_parts, cases_Bool, ltb-false}
+use Rattle.std.proofs.lemmas.Bool.{and_parts, cases_Bool, or_cases, or_left, ltb-false}
 use Rattle.serde_json.specs.{Data.{Data, string, array, object, Items, no_items, item, Members, no_members, member}, Find.{get, get_member}}
 use Rattle.conf_tree.specs.{Flaw.{key, index, within, Flaw, here}, declared.fault_kind.FaultKind.FaultKind}
 use Rattle.conf_tree.specs.{Walk.refusal, declared.fault_kind.FaultKind.TheVariants.{TooDeep, Limit, WrongKind, NoSuchAlias, NameClash}}
 use Rattle.conf_table.specs.declared.place.Place.{Place}
-use Rattle.conf_inherit.specs.FieldPlaces.{place_under, place_of_items, names_alias, names_member_type, is_base_name, lists_members, is_entry}
-use Rattle.conf_inherit.specs.{Flaws.{is_wrong, is_unknown, own_flaws, base_flaws, inner_flaws, item_flaws, member_flaws, type_flaws, mark, flaws}, Size.size}
+use Rattle.conf_inherit.specs.FieldPlaces.{place_under, place_of_items, names_alias, names_type, is_base_name, lists_members, is_entry}
+use Rattle.conf_inherit.specs.{Flaws.{is_wrong, known_in, name_fault, is_crowded, fault_or, own_flaws, limits, is_alone, alone_flaws, is_outside, inner_flaws, item_flaws, member_flaws, value_flaws, type_flaws, mark, flaws}, Size.size}
 use Rattle.conf_inherit.specs.Laying.{members_below, items_below, lay_text, lay, lay_base, lay_members, lay_over, lay_over_member, lay_new, lay_new_member}
 use Rattle.conf_inherit.specs.Limits.{fitting, passed, limit_flaws, max_values, max_levels, Fits, Exceeds, Inherits, InheritsInItems, InheritsInMembers}
 use Rattle.conf_inherit.specs.{Named.{all_named, all_named_in_items, all_named_in_members, has}, Names.{join_items, map_items, entries_of, properties_of}, Faults.Leads, Nesting.nests}
 use Rattle.conf_inherit.proofs.FaultLemmas.{named_along, same_part, part_empty, joined_empty, Each, no_flaw, a_flaw, joined, first_told, IsTold, flaws_told}
-use Rattle.conf_inherit.proofs.{LayingLemmas.{same_function, over_entries, new_entries, AllEntries, all_joined}, FieldPlaceLemmas.{list_place, entry_place, base_place, alias_place}}
+use Rattle.conf_inherit.proofs.{LayingLemmas.{same_function, over_entries, new_entries, AllEntries, all_joined}, FieldPlaceLemmas.{list_place, entry_place, base_place, alias_place}, WorkedPlaces.{LeadsElsewhere, under_elsewhere, items_elsewhere, not_crowded}}
 use Rattle.conf_table.specs.declared.place.Place.TheVariants as places
 use borrow.Author.Tests.{ltb-true}
 
--- the limit that a value of a `$inherit` passes, where the resolved aliases are known
-abbrev pub limits : Option Members → Data → List Flaw
-limits None d = []
-limits (Some done) d = limit_flaws done places.FieldType d
+-- the limit of a field type that is no part of another
+pub alone_limit : (known : Option Members) (outside : Bool) (s : Place) (k : List ℕ) (d : Data) → is_alone outside s k ≡ true → alone_flaws known outside s k d ≡ limits known (place_under s k) d
+unfolding alone_flaws
+alone_limit known outside s k d is = rw is refl
 
-base_limits : (known : Option Members) (s : Place) (k : List ℕ) (d : Data) → base_flaws known s k d ≡ cond (is_base_name s k) (limits known d) []
-unfolding base_flaws
-base_limits None s k d = elim (cases_Bool (is_base_name s k)) [ inl is ↦ rw is refl | inr is ↦ rw is refl ]
-base_limits (Some done) s k d = refl
+-- the flaws of a value are the same where the same names are wrong, and the limits of the field types are the same
+module _ (ask now : List ℕ → Option FaultKind) (names : (n : List ℕ) → now n ≡ ask n) where
+  alike_name : (s : Place) (v : Data) → name_fault now s v ≡ name_fault ask s v
+  alike_name s (string n) = ap (λ o. if names_type s then o else None) (names n)
+  alike_name s _ = refl
 
--- the flaws of a value are the same for aliases of the same names, where those of each value of a `$inherit` are
-module _ (al now : Members) (names : (n : List ℕ) → has now n ≡ has al n) where
-  alike_unknown : (s : Place) (v : Data) → is_unknown now s v ≡ is_unknown al s v
-  alike_unknown s (string n) = ap (λ t. (names_alias s || names_member_type s) && not t) (names n)
-  alike_unknown s _ = refl
-
-  pub alike_own : (s : Place) (taken : Bool) (v : Data) → own_flaws now s taken v ≡ own_flaws al s taken v
+  pub alike_own : (s : Place) (taken : Bool) (v : Data) → own_flaws now s taken v ≡ own_flaws ask s taken v
   unfolding own_flaws
-  alike_own s taken v = ap (λ t. if is_wrong s v then here WrongKind ∷ [] else if t then here NoSuchAlias ∷ [] else if taken then here NameClash ∷ [] else []) (alike_unknown s v)
+  alike_own s taken v = ap (λ o. if is_wrong s v then here WrongKind ∷ [] else fault_or o (if taken then here NameClash ∷ [] else if is_crowded s v then here Limit ∷ [] else [])) (alike_name s v)
 
   module _ (rs ks : Option Members) where
-    alike_base : (s : Place) (k : List ℕ) (d : Data) → (is_base_name s k ≡ true → limits ks d ≡ limits rs d) → base_flaws ks s k d ≡ base_flaws rs s k d
-    alike_base s k d h = elim (cases_Bool (is_base_name s k)) [ inl is ↦ rw (base_limits ks s k d, base_limits rs s k d, is) (h is) | inr is ↦ rw (base_limits ks s k d, base_limits rs s k d, is) refl ]
+    abbrev SameLimits : Place → Data → Type 0
+    SameLimits s d = limits ks s d ≡ limits rs s d
 
-    pub alike_flaws : (s : Place) (taken : Bool) (seen : Members) (v : Data) → inner_flaws now ks s seen v ≡ inner_flaws al rs s seen v → flaws now ks s taken seen v ≡ flaws al rs s taken seen v
-    alike_flaws s taken seen v inner = ap (λ x. x ++ inner_flaws now ks s seen v) (alike_own s taken v) ∙ ap (λ x. own_flaws al s taken v ++ x) inner
+    alike_alone : (outside : Bool) (s : Place) (k : List ℕ) (d : Data) → (outside ≡ true → (t : Place) (x : Data) → SameLimits t x) → (is_base_name s k ≡ true → SameLimits places.FieldType d) → alone_flaws ks outside s k d ≡ alone_flaws rs outside s k d
+    unfolding alone_flaws
+    alike_alone outside s k d all h = elim (cases_Bool (is_alone outside s k)) [
+      | inl is ↦ elim (or_cases (is_base_name s k) (outside && names_type (place_under s k)) is) [
+        | inl base ↦ rw (is, base_place s k base) (h base)
+        | inr out ↦ rw is (all (and_parts outside (names_type (place_under s k)) out).0 (place_under s k) d)
+      ]
+      | inr is ↦ rw is refl
+    ]
+
+    pub alike_flaws : (outside : Bool) (s : Place) (taken : Bool) (seen : Members) (v : Data) → inner_flaws now ks outside s seen v ≡ inner_flaws ask rs outside s seen v → value_flaws now ks outside s taken seen v ≡ value_flaws ask rs outside s taken seen v
+    alike_flaws outside s taken seen v inner = ap (λ x. x ++ inner_flaws now ks outside s seen v) (alike_own s taken v) ∙ ap (λ x. own_flaws ask s taken v ++ x) inner
 
     mutual
-      pub alike_in : (v : Data) (s : Place) (seen : Members) → ((d : Data) → Inherits d s v → limits ks d ≡ limits rs d) → inner_flaws now ks s seen v ≡ inner_flaws al rs s seen v
-      alike_in (array es) s seen h = alike_in_items es s 0 no_members h
-      alike_in (object ms) s seen h = alike_in_members ms s seen h
-      alike_in _ s seen h = refl
+      pub alike_in : (v : Data) (outside : Bool) (s : Place) (seen : Members) → (outside ≡ true → (t : Place) (d : Data) → SameLimits t d) → ((d : Data) → Inherits d s v → SameLimits places.FieldType d) → inner_flaws now ks outside s seen v ≡ inner_flaws ask rs outside s seen v
+      alike_in (array es) outside s seen all h = alike_in_items es outside s 0 no_members all h
+      alike_in (object ms) outside s seen all h = alike_in_members ms outside s seen all h
+      alike_in _ outside s seen all h = refl
 
-      alike_in_items : (es : Items) (s : Place) (i : ℕ) (seen : Members) → ((d : Data) → InheritsInItems d (place_of_items s) es → limits ks d ≡ limits rs d) → item_flaws now ks s i seen es ≡ item_flaws al rs s i seen es
-      alike_in_items no_items s i seen h = refl
-      alike_in_items (item e es) s i seen h =
-          same_part (within (index i)) _ _ _ _ _ _ (alike_own (place_of_items s) false e) (alike_in e (place_of_items s) seen (λ d x. h d (inl x))) (alike_in_items es s (suc i) (mark e seen) (λ d x. h d (inr x)))
+      alike_in_items : (es : Items) (outside : Bool) (s : Place) (i : ℕ) (seen : Members) → (outside ≡ true → (t : Place) (d : Data) → SameLimits t d) → ((d : Data) → InheritsInItems d (place_of_items s) es → SameLimits places.FieldType d) → item_flaws now ks outside s i seen es ≡ item_flaws ask rs outside s i seen es
+      alike_in_items no_items outside s i seen all h = refl
+      alike_in_items (item e es) outside s i seen all h =
+          same_part (within (index i)) _ _ _ _ _ _ (alike_own (place_of_items s) false e) (alike_in e outside (place_of_items s) seen all (λ d x. h d (inl x))) (alike_in_items es outside s (suc i) (mark e seen) all (λ d x. h d (inr x)))
 
-      alike_in_members : (ms : Members) (s : Place) (seen : Members) → ((d : Data) → InheritsInMembers d s ms → limits ks d ≡ limits rs d) → member_flaws now ks s seen ms ≡ member_flaws al rs s seen ms
-      alike_in_members no_members s seen h = refl
-      alike_in_members (member k e ms) s seen h =
-          same_part (within (key k)) _ _ _ _ _ _ (alike_flaws (place_under s k) (is_entry s && is_some (get_member k seen)) no_members e (alike_in e (place_under s k) no_members (λ d x. h d (inl (inr x))))) (alike_base s k e (λ is. h e (inl (inl (is, refl))))) (alike_in_members ms s seen (λ d x. h d (inr x)))
+      alike_in_members : (ms : Members) (outside : Bool) (s : Place) (seen : Members) → (outside ≡ true → (t : Place) (d : Data) → SameLimits t d) → ((d : Data) → InheritsInMembers d s ms → SameLimits places.FieldType d) → member_flaws now ks outside s seen ms ≡ member_flaws ask rs outside s seen ms
+      alike_in_members no_members outside s seen all h = refl
+      alike_in_members (member k e ms) outside s seen all h =
+          let t = place_under s k in
+          let inner = alike_in e (is_outside outside t) t no_members (λ o. all (and_parts outside (not (names_type t)) o).0) (λ d x. h d (inl (inr x))) in
+          same_part (within (key k)) _ _ _ _ _ _ (alike_flaws (is_outside outside t) t (is_entry s && is_some (get_member k seen)) no_members e inner) (alike_alone outside s k e all (λ is. h e (inl (inl (is, refl))))) (alike_in_members ms outside s seen all (λ d x. h d (inr x)))
 
 -- each value of a `$inherit` in a value names what the value does
 mutual
@@ -144,14 +151,14 @@ module _ (done more : Members) (kept : (n : List ℕ) → has done n ≡ true �
   kept_limit s v h = rw (more_named s v h, h) (ap (λ r. passed (fitting r)) (kept_lay v s None h))
 
   module _ (al : Members) where
-    pub kept_inner : (v : Data) (s : Place) (seen : Members) → IsNamed s v → inner_flaws al (Some more) s seen v ≡ inner_flaws al (Some done) s seen v
-    kept_inner v s seen h = alike_in al al (λ n. refl) (Some done) (Some more) v s seen (λ d x. kept_limit places.FieldType d (inherited_named (has done) v s d h x))
+    pub kept_inner : (v : Data) (s : Place) (seen : Members) → IsNamed s v → inner_flaws (known_in al) (Some more) false s seen v ≡ inner_flaws (known_in al) (Some done) false s seen v
+    kept_inner v s seen h = alike_in (known_in al) (known_in al) (λ n. refl) (Some done) (Some more) v false s seen (λ out. absurd (true≢false (sym out))) (λ d x. kept_limit places.FieldType d (inherited_named (has done) v s d h x))
 
     -- the flaws of a type stay the same
     pub kept_flaws : (s : Place) (v : Data) → IsNamed s v → type_flaws al more s v ≡ type_flaws al done s v
     kept_flaws s v h =
-        ap (λ x. (own_flaws al s false v ++ x) ++ limit_flaws more s v) (kept_inner v s no_members h)
-        ∙ ap (λ x. (own_flaws al s false v ++ inner_flaws al (Some done) s no_members v) ++ x) (kept_limit s v h)
+        ap (λ x. (own_flaws (known_in al) s false v ++ x) ++ limit_flaws more s v) (kept_inner v s no_members h)
+        ∙ ap (λ x. (own_flaws (known_in al) s false v ++ inner_flaws (known_in al) (Some done) false s no_members v) ++ x) (kept_limit s v h)
 
 -- What the limits of a type are judged by: nothing is refused exactly where all that is judged fits, and what is
 -- refused is past the limit.
@@ -186,11 +193,6 @@ passed_told P r o told (exceeds kind past) = a_flaw (told kind past) no_flaw
 
 pub limits_told : (P : Flaw → Type 0) (done : Members) (s : Place) (v : Data) → (all_named (has done) s v ≡ true → (kind : FaultKind) → Exceeds kind (lay done s v None) → P (here kind)) → Each P (limit_flaws done s v)
 limits_told P done s v told = elim (cases_Bool (all_named (has done) s v)) [ inl is ↦ rw is (passed_told P (lay done s v None) _ (told is) (judged (lay done s v None))) | inr is ↦ rw is no_flaw ]
-
--- and of each limit that the value of a `$inherit` passes
-pub bases_told : (P : Place → Data → Flaw → Type 0) (done : Members) → ((d : Data) → Each (P places.FieldType d) (limit_flaws done places.FieldType d)) → (s : Place) (k : List ℕ) (d : Data) → Each (P (place_under s k) d) (base_flaws (Some done) s k d)
-unfolding base_flaws
-bases_told P done told s k d = elim (cases_Bool (is_base_name s k)) [ inl is ↦ rw (is, base_place s k is) (told d) | inr is ↦ rw is no_flaw ]
 
 -- nothing is listed where the type fits, and only there
 fits_at : (r : Data) (o : Result Data FaultKind) → Judged r o → (passed o ≡ [] → Fits r) × (Fits r → passed o ≡ [])
@@ -229,25 +231,25 @@ module _ (done : Members) where
     -- where a value has no flaw, no value of a `$inherit` in it passes a limit
     mutual
       bases_free : (v : Data) (s : Place) (taken : Bool) (seen : Members) → flaws al (Some done) s taken seen v ≡ [] → (d : Data) → Inherits d s v → limit_flaws done places.FieldType d ≡ []
-      bases_free (array es) s taken seen h d x = bases_free_items es s 0 no_members (joined_empty (own_flaws al s taken (array es)) (item_flaws al (Some done) s 0 no_members es) h).1 d x
-      bases_free (object ms) s taken seen h d x = bases_free_members ms s seen (joined_empty (own_flaws al s taken (object ms)) (member_flaws al (Some done) s seen ms) h).1 d x
+      bases_free (array es) s taken seen h d x = bases_free_items es s 0 no_members (joined_empty (own_flaws (known_in al) s taken (array es)) (item_flaws (known_in al) (Some done) false s 0 no_members es) h).1 d x
+      bases_free (object ms) s taken seen h d x = bases_free_members ms s seen (joined_empty (own_flaws (known_in al) s taken (object ms)) (member_flaws (known_in al) (Some done) false s seen ms) h).1 d x
       bases_free _ s taken seen h d x = absurd x
 
-      bases_free_items : (es : Items) (s : Place) (i : ℕ) (seen : Members) → item_flaws al (Some done) s i seen es ≡ [] → (d : Data) → InheritsInItems d (place_of_items s) es → limit_flaws done places.FieldType d ≡ []
+      bases_free_items : (es : Items) (s : Place) (i : ℕ) (seen : Members) → item_flaws (known_in al) (Some done) false s i seen es ≡ [] → (d : Data) → InheritsInItems d (place_of_items s) es → limit_flaws done places.FieldType d ≡ []
       bases_free_items no_items s i seen h d x = absurd x
       bases_free_items (item e es) s i seen h d x =
-          let (mine, later) = part_empty (within (index i)) (flaws al (Some done) (place_of_items s) false seen e) (item_flaws al (Some done) s (suc i) (mark e seen) es) h in
+          let (mine, later) = part_empty (within (index i)) (flaws al (Some done) (place_of_items s) false seen e) (item_flaws (known_in al) (Some done) false s (suc i) (mark e seen) es) h in
           elim x [ inl y ↦ bases_free e (place_of_items s) false seen mine d y | inr y ↦ bases_free_items es s (suc i) (mark e seen) later d y ]
 
-      bases_free_members : (ms : Members) (s : Place) (seen : Members) → member_flaws al (Some done) s seen ms ≡ [] → (d : Data) → InheritsInMembers d s ms → limit_flaws done places.FieldType d ≡ []
+      bases_free_members : (ms : Members) (s : Place) (seen : Members) → member_flaws (known_in al) (Some done) false s seen ms ≡ [] → (d : Data) → InheritsInMembers d s ms → limit_flaws done places.FieldType d ≡ []
       bases_free_members no_members s seen h d x = absurd x
       bases_free_members (member k e ms) s seen h d x =
           let taken = is_entry s && is_some (get_member k seen) in
           let all = flaws al (Some done) (place_under s k) taken no_members e in
-          let (mine, later) = part_empty (within (key k)) (all ++ base_flaws (Some done) s k e) (member_flaws al (Some done) s seen ms) h in
-          let (whole, base) = joined_empty all (base_flaws (Some done) s k e) mine in
+          let (mine, later) = part_empty (within (key k)) (all ++ alone_flaws (Some done) false s k e) (member_flaws (known_in al) (Some done) false s seen ms) h in
+          let (whole, base) = joined_empty all (alone_flaws (Some done) false s k e) mine in
           elim x [
-            | inl (inl (is, same)) ↦ rw same (sym (base_limits (Some done) s k e ∙ rw is refl) ∙ base)
+            | inl (inl (is, same)) ↦ rw same (subst (λ t. limit_flaws done t e ≡ []) (base_place s k is) (sym (alone_limit (Some done) false s k e (or_left (is_base_name s k) false is)) ∙ base))
             | inl (inr y) ↦ bases_free e (place_under s k) taken no_members whole d y
             | inr y ↦ bases_free_members ms s seen later d y
           ]
@@ -256,14 +258,14 @@ module _ (done : Members) where
     pub fits_inside : (v : Data) (s : Place) (taken : Bool) (seen : Members) → flaws al (Some done) s taken seen v ≡ [] → (flaws al None s taken seen v ≡ []) × EachFits (λ d. Inherits d s v)
     fits_inside v s taken seen h =
         let free = bases_free v s taken seen h in
-        (alike_flaws al al (λ n. refl) (Some done) None s taken seen v (alike_in al al (λ n. refl) (Some done) None v s seen (λ d x. sym (free d x))) ∙ h, λ d x. (limit_fits places.FieldType d).0 (free d x))
+        (alike_flaws (known_in al) (known_in al) (λ n. refl) (Some done) None false s taken seen v (alike_in (known_in al) (known_in al) (λ n. refl) (Some done) None v false s seen (λ out. absurd (true≢false (sym out))) (λ d x. sym (free d x))) ∙ h, λ d x. (limit_fits places.FieldType d).0 (free d x))
 
     -- nothing is refused exactly where there is no other flaw, and the type and all that it inherits from fit
     pub sound_type : (s : Place) (v : Data) → type_flaws al done s v ≡ [] ↔ ((flaws al None s false no_members v ≡ []) × FitsAlone s v × EachFits (λ d. Inherits d s v))
     sound_type s v =
         let all = flaws al (Some done) s false no_members v in (
           λ e. let (none, limit) = joined_empty all (limit_flaws done s v) e in let fit = fits_inside v s false no_members none in (fit.0, (limit_fits s v).0 limit, fit.1),
-          λ h. both_empty all (limit_flaws done s v) (alike_flaws al al (λ n. refl) None (Some done) s false no_members v (alike_in al al (λ n. refl) None (Some done) v s no_members (λ d x. (limit_fits places.FieldType d).1 (h.2 d x))) ∙ h.0) ((limit_fits s v).1 h.1),
+          λ h. both_empty all (limit_flaws done s v) (alike_flaws (known_in al) (known_in al) (λ n. refl) None (Some done) false s false no_members v (alike_in (known_in al) (known_in al) (λ n. refl) None (Some done) v false s no_members (λ out. absurd (true≢false (sym out))) (λ d x. (limit_fits places.FieldType d).1 (h.2 d x))) ∙ h.0) ((limit_fits s v).1 h.1),
         )
 
     -- ---- a limit that is refused
@@ -277,20 +279,38 @@ module _ (done : Members) where
     abbrev LimitAt : Place → Data → Flaw → Type 0
     LimitAt s v f = (d : Data) × Leads s v f.path places.FieldType d × (all_named (has done) places.FieldType d ≡ true) × Exceeds f.kind (lay done places.FieldType d None)
 
-    limit_told : (d : Data) → Each (λ f. is_limit f.kind ≡ true → LimitAt places.FieldType d f) (limit_flaws done places.FieldType d)
-    limit_told d = limits_told _ done places.FieldType d (λ named kind past is. (d, (refl, refl), named, past))
+    -- a flaw of a part of a field type, if it is a limit, is at such a type
+    abbrev LimitTold : Place → Data → Flaw → Type 0
+    LimitTold s v f = LeadsElsewhere s → is_limit f.kind ≡ true → LimitAt s v f
 
-    told : IsTold al (Some done) (λ s v f. is_limit f.kind ≡ true → LimitAt s v f)
+    limit_told : (d : Data) → Each (LimitTold places.FieldType d) (limit_flaws done places.FieldType d)
+    limit_told d = limits_told _ done places.FieldType d (λ named kind past away is. (d, (refl, refl), named, past))
+
+    alone_base : (s : Place) (k : List ℕ) → is_alone false s k ≡ true → place_under s k ≡ places.FieldType
+    alone_base s k is = elim (or_cases (is_base_name s k) false is) [ inl base ↦ base_place s k base | inr bad ↦ absurd (true≢false (sym bad)) ]
+
+    named_limit : (s : Place) (v : Data) (kind : FaultKind) → name_fault (known_in al) s v ≡ Some kind → is_limit kind ≡ true → ⊥
+    named_limit s (string n) kind named is = elim (cases_Bool (names_type s)) [
+      | inl type ↦ elim (cases_Bool (has al n)) [
+        | inl e ↦ (let bad : None ≡ Some kind = rw (type, e) at named in cc)
+        | inr e ↦ (let bad : Some NoSuchAlias ≡ Some kind = rw (type, e) at named in let same : NoSuchAlias ≡ kind = cc in true≢false (sym (subst (λ x. is_limit x ≡ true) (sym same) is)))
+      ]
+      | inr type ↦ (let bad : None ≡ Some kind = rw type at named in cc)
+    ]
+    named_limit s _ kind named is = cc
+
+    told : IsTold (known_in al) (Some done) false LimitTold
     told = record {
-      in_object = λ s k e ms g m at is. let (d, leads, named, past) = at is in (d, (ms, e, refl, m, leads), named, past);
-      in_list = λ s i e es g m at is. let (d, leads, named, past) = at is in (d, (es, e, refl, m, leads), named, past);
-      wrong = λ s v wrong is. absurd (true≢false (sym is));
-      unknown = λ s v unknown is. absurd (true≢false (sym is));
-      clash = λ s es i j n lists before first second is. absurd (true≢false (sym is));
-      bases = bases_told (λ s v f. is_limit f.kind ≡ true → LimitAt s v f) done limit_told;
+      in_object = λ s k e ms g m at away is. let (d, leads, named, past) = at (under_elsewhere s k away) is in (d, (ms, e, refl, m, leads), named, past);
+      in_list = λ s i e es g m at away is. let (d, leads, named, past) = at (items_elsewhere s) is in (d, (es, e, refl, m, leads), named, past);
+      wrong = λ s v wrong away is. absurd (true≢false (sym is));
+      misnamed = λ s v kind named away is. absurd (named_limit s v kind named is);
+      crowded = λ s v crowded away is. absurd (true≢false (sym crowded ∙ not_crowded s v away));
+      clash = λ s es i j n lists before first second away is. absurd (true≢false (sym is));
+      alone = λ s k d is. subst (λ t. Each (LimitTold t d) (limit_flaws done t d)) (sym (alone_base s k is)) (limit_told d);
     }
 
     -- a type that is refused for a limit leads to one that passes it
     pub refused_limit : (v : Data) (f : Flaw) → refusal (type_flaws al done places.FieldType v) ≡ Err f → (f.kind ≡ Limit) ⊎ (f.kind ≡ TooDeep) → LimitAt places.FieldType v f
     refused_limit v f h named =
-        first_told f (joined (flaws_told al (Some done) (λ s v f. is_limit f.kind ≡ true → LimitAt s v f) told places.FieldType v) (limit_told v)) h (elim named [ inl e ↦ ap is_limit e | inr e ↦ ap is_limit e ])
+        first_told f (joined (flaws_told (known_in al) (Some done) false LimitTold told false (λ out. out) places.FieldType v) (limit_told v)) h refl (elim named [ inl e ↦ ap is_limit e | inr e ↦ ap is_limit e ])

@@ -1,26 +1,24 @@
 -- The kind of a refusal holds at its path.
-use Rattle.std.proofs.Common.{◌≡◌, ◌⊎◌, inl, inr, ℕ, suc, List, [], ◌∷◌, Option, Some, None, option_and_then, Result, Ok, Err, is_some, nat_lt, Bool, true, false, refl, sym, ap, ◌∙◌, subst}
-use Rattle.std.proofs.lemmas.Bool.{cases_Bool, or_from, true≢false}
+use Rattle.std.proofs.Common.{◌≡◌, ◌⊎◌, inl, inr, ℕ, suc, List, [], ◌∷◌, Option, Some, None, option_and_then, Result, Ok, Err, is_some, Bool, true, false, refl, sym, ap, ◌∙◌, subst}
+use Rattle.std.proofs.lemmas.Bool.{cases_Bool, or_cases, or_from, true≢false}
 use Rattle.std.specs.Prelude.{⊤}
-use Rattle.serde_json.specs.{Data.{Data, array, object, Items, no_items, item, Members, no_members, member}, Events.{items_len, members_len}}
+use Rattle.serde_json.specs.{Data.{Data, array, object, Members, no_members, member}, Events.members_len}
 use Rattle.serde_json.specs.Find.{get, get_member}
-use Rattle.conf_tree.specs.{Flaw.{Flaw, key, index, here, within, Place as Step}, Reading.◌>>=◌, Walk.{HasMember, refusal, IsTreeOf}}
+use Rattle.conf_tree.specs.{Flaw.{Flaw, key, here, within, Place as Step}, Reading.◌>>=◌, Walk.{HasMember, refusal, IsTreeOf}}
 use Rattle.conf_tree.specs.{declared.fault_kind.FaultKind.FaultKind, declared.fault_kind.FaultKind.TheVariants.{InheritCycle, Limit, WrongKind, NoSuchAlias}}
 use Rattle.conf_table.specs.{declared.place.Place.Place, Table.{content_under, entries_of, rows_of, place_in}}
-use Rattle.conf_inherit.specs.FieldPlaces.{field_place, place_under, place_of_items, names_alias, names_member_type, lists_extra_members, leads_on}
-use Rattle.conf_inherit.specs.{AliasFlaws.{first_or_circle, alias_flaws, all_alias_flaws}, Flaws.{type_flaws, mark}, Looks.{AreResolved, Looks}, Names.NoClash}
-use Rattle.conf_inherit.specs.{Circle.Walks, SameFlaw.is_same_flaw, Named.{Names, all_named, has}, Rounds.{Outcomes, has_outcome}, Laying.lay}
-use Rattle.conf_inherit.specs.{Faults.{Passes, FlawHolds, RefusalHolds, Leads, ListsTooMany, Tells}, Limits.{Exceeds, limit_flaws}}
-use Rattle.conf_inherit.specs.{Places.{too_many, place_flaws, inner_places, item_places, member_places, max_extra_members}, Nesting.{deep_flaws, PassesDepth}}
+use Rattle.conf_inherit.specs.FieldPlaces.{field_place, place_under, names_type, is_base_name}
+use Rattle.conf_inherit.specs.{AliasFlaws.{open_in, is_circle, first_or_circle, alias_flaws, all_alias_flaws}, Flaws.{known_in, is_alone, value_flaws, asked_flaws, type_flaws, whole_flaws}, Looks.{AreResolved, Looks}, Names.NoClash}
+use Rattle.conf_inherit.specs.{Circle.Walks, Named.{Names, all_named, has}, Rounds.{Outcomes, has_outcome}, Laying.lay}
+use Rattle.conf_inherit.specs.{Faults.{Passes, FlawHolds, RefusalHolds, Leads, Tells}, Limits.{Exceeds, limit_flaws}}
+use Rattle.conf_inherit.specs.Nesting.{deep_flaws, PassesDepth}
 use Rattle.conf_inherit.specs.Resolution.{members_or_none, trace_name, type_name, aliases_name, aliases_of, in_aliases, from_aliases, if_shallow, resolution, Resolves}
 use Rattle.conf_inherit.proofs.SizeLemmas.{deep_told, depth_excluded}
-use Rattle.conf_inherit.proofs.SoundPlaces.{flawless, sound_along}
 use Rattle.conf_inherit.proofs.RoundLemmas.{rounds_of, TreeSound, tree_sound, laid_resolves, resolution_sound, no_flaws, circle_refused, rounds_resolved, rounds_reached, all_done}
-use Rattle.conf_inherit.proofs.{LimitLemmas.{limits_told, bases_told, apart_fits}, LookedUp.{no_twice, one_look, both_there, read_in_order, aliases_apart}, LaysOver.lays}
-use Rattle.conf_inherit.proofs.{FieldPlaceLemmas.{trace_place, trace_type_place, aliases_place, alias_field}, TurnLemmas.rounds_open}
-use Rattle.conf_inherit.proofs.FaultLemmas.{joined_empty, own_sound, Each, no_flaw, a_flaw, joined, each_along, part, first_told, IsTold, holds_told, holds_in_object, holds_in_list, entry_told, inner_told, of_itself, flaws_told, Aligned, aligned_all, aligned_here, aligned_next, Seen, seen_next_at, none_seen, SoundAt, sound_entries}
-use Rattle.conf_inherit.proofs.{LayingLemmas.{has_found, AllEntries, found_each}, PlacesFit.{IsFine, sound_named, all_fine}}
-use borrow.Author.Tests.{ltb-true}
+use Rattle.conf_inherit.proofs.{LimitLemmas.{limits_told, apart_fits}, LookedUp.{no_twice, one_look, both_there, read_in_order, aliases_apart}, LaysOver.lays}
+use Rattle.conf_inherit.proofs.{FieldPlaceLemmas.{trace_place, trace_type_place, aliases_place, alias_named, base_place}, TurnLemmas.rounds_open}
+use Rattle.conf_inherit.proofs.FaultLemmas.{joined_empty, OwnSound, own_sound, Each, no_flaw, a_flaw, joined, each_along, part, first_told, HoldsOr, holds_told, holds_in_object, flaws_told, SoundAt, sound_entries}
+use Rattle.conf_inherit.proofs.{LayingLemmas.{has_found, AllEntries, found_each}, PlacesFit.{IsFit, fit_sound, sound_named, fit_along, root_fit, type_fit}}
 use Rattle.conf_table.specs.declared.place.Place.TheVariants as places
 
 module _ (al : Members) where
@@ -30,19 +28,48 @@ module _ (al : Members) where
     limit_holds : (s : Place) (v : Data) → Names s → Each (FlawHolds al s v) (limit_flaws done s v)
     limit_holds s v names = limits_told (FlawHolds al s v) done s v (λ named kind past. inl (s, v, (refl, refl), inr (names, (done, known, named, past))))
 
-    told : IsTold al (Some done) (FlawHolds al)
-    told = holds_told al (Some done) (bases_told (FlawHolds al) done (λ d. limit_holds places.FieldType d (inl alias_field)))
+    alone_names : (s : Place) (k : List ℕ) → is_alone true s k ≡ true → Names (place_under s k)
+    alone_names s k is = elim (or_cases (is_base_name s k) (names_type (place_under s k)) is) [ inl base ↦ subst (λ t. Names t) (sym (base_place s k base)) alias_named | inr type ↦ type ]
+
+    limits_hold : (s : Place) (k : List ℕ) (d : Data) → is_alone true s k ≡ true → Each (FlawHolds al (place_under s k) d) (limit_flaws done (place_under s k) d)
+    limits_hold s k d is = limit_holds (place_under s k) d (alone_names s k is)
+
+    no_alias : (n : List ℕ) (kind : FaultKind) → known_in al n ≡ Some kind → ⊥ ⊎ ((kind ≡ NoSuchAlias) × (has al n ≡ false))
+    no_alias n kind h = elim (cases_Bool (has al n)) [
+      | inl e ↦ absurd (let bad : None ≡ Some kind = rw e at h in cc)
+      | inr e ↦ (let same : Some NoSuchAlias ≡ Some kind = rw e at h in inr (let one : kind ≡ NoSuchAlias = cc in one, e))
+    ]
+
+    known_holds : (outside : Bool) (s : Place) (v : Data) → Each (FlawHolds al s v) (value_flaws (known_in al) (Some done) outside s false no_members v)
+    known_holds outside s v =
+        each_along (λ f h. elim h [ inl bad ↦ absurd bad | inr x ↦ x ]) (flaws_told (known_in al) (Some done) true (HoldsOr (λ kind. ⊥) al) (holds_told (λ kind. ⊥) al (known_in al) no_alias (Some done) limits_hold) outside (λ h. refl) s v)
 
     type_holds : (s : Place) (v : Data) → Names s → Each (FlawHolds al s v) (type_flaws al done s v)
-    type_holds s v names = joined (flaws_told al (Some done) (FlawHolds al) told s v) (limit_holds s v names)
+    type_holds s v names = joined (known_holds false s v) (limit_holds s v names)
+
+    -- a name in an alias without an outcome is no alias's, or leads into the circle
+    abbrev OfCircle : FaultKind → Type 0
+    OfCircle kind = is_circle kind ≡ true
+
+    no_alias_or_open : (st : Outcomes) (n : List ℕ) (kind : FaultKind) → open_in al st n ≡ Some kind → OfCircle kind ⊎ ((kind ≡ NoSuchAlias) × (has al n ≡ false))
+    no_alias_or_open st n kind h = elim (cases_Bool (has al n)) [
+      | inl e ↦ elim (cases_Bool (has_outcome st n)) [
+        | inl o ↦ absurd (let bad : None ≡ Some kind = rw (e, o) at h in cc)
+        | inr o ↦ (let same : Some InheritCycle ≡ Some kind = rw (e, o) at h in let one : InheritCycle ≡ kind = cc in inl (subst OfCircle one refl))
+      ]
+      | inr e ↦ (let same : Some NoSuchAlias ≡ Some kind = rw e at h in inr (let one : kind ≡ NoSuchAlias = cc in one, e))
+    ]
+
+    open_holds : (st : Outcomes) (v : Data) → Each (HoldsOr OfCircle al places.FieldType v) (asked_flaws (open_in al st) done places.FieldType v)
+    open_holds st v = joined (flaws_told (open_in al st) (Some done) true (HoldsOr OfCircle al) (holds_told OfCircle al (open_in al st) (no_alias_or_open st) (Some done) limits_hold) false (λ h. refl) places.FieldType v)
+        (each_along (λ f x. inr x) (limit_holds places.FieldType v alias_named))
 
     -- a flaw of its own holds, and else the circle is told of
-    own_or_circle : (w : Data) (own over : Result ⊤ Flaw) → refusal (type_flaws al done places.FieldType w) ≡ own → Each (λ f. FlawHolds al places.FieldType w f ⊎ (f ≡ here InheritCycle)) (first_or_circle own over)
-    own_or_circle w (Ok x) over is = a_flaw (inr refl) no_flaw
-    own_or_circle w (Err g) (Ok x) is = a_flaw (inr refl) no_flaw
-    own_or_circle w (Err g) (Err first) is = elim (cases_Bool (is_same_flaw g first)) [
-      | inl e ↦ rw e (a_flaw (inl (first_told g (type_holds places.FieldType w (inl alias_field)) is)) no_flaw)
-      | inr e ↦ rw e (a_flaw (inr refl) no_flaw)
+    own_or_circle : (st : Outcomes) (w : Data) (found : Result ⊤ Flaw) → refusal (asked_flaws (open_in al st) done places.FieldType w) ≡ found → Each (λ f. FlawHolds al places.FieldType w f ⊎ (f ≡ here InheritCycle)) (first_or_circle found)
+    own_or_circle st w (Ok x) is = a_flaw (inr refl) no_flaw
+    own_or_circle st w (Err g) is = elim (cases_Bool (is_circle g.kind)) [
+      | inl e ↦ rw e (a_flaw (inr refl) no_flaw)
+      | inr e ↦ rw e (a_flaw {f = g} (elim (first_told g (open_holds st w) is) [ inl q ↦ absurd (true≢false (sym q ∙ e)) | inr x ↦ inl x ]) no_flaw)
     ]
 
   -- ---- the aliases
@@ -55,8 +82,8 @@ module _ (al : Members) where
       where
         go : (t : Bool) → has st.done k ≡ t → (u : Bool) → has st.refused k ≡ u → Each (λ f. FlawHolds al places.FieldType w f ⊎ ((f ≡ here InheritCycle) × Walks al (members_len al) k)) (alias_flaws al st k w)
         go true a u b = rw a no_flaw
-        go false a true b = rw (a, b) (each_along (λ f h. inl h) (type_holds st.done known places.FieldType w (inl alias_field)))
-        go false a false b = rw (a, b) (each_along (λ f h. elim h [ inl x ↦ inl x | inr e ↦ inr (e, walks k (ap is_some is) (or_from (has st.done k) (has st.refused k) a b)) ]) (own_or_circle st.done known w _ _ refl))
+        go false a true b = rw (a, b) (each_along (λ f h. inl h) (type_holds st.done known places.FieldType w alias_named))
+        go false a false b = rw (a, b) (each_along (λ f h. elim h [ inl x ↦ inl x | inr e ↦ inr (e, walks k (ap is_some is) (or_from (has st.done k) (has st.refused k) a b)) ]) (own_or_circle st.done known st w _ refl))
 
     aliases_told : (ms : Members) → AllEntries (λ k w. get_member k al ≡ Some w) ms → ((k : List ℕ) (d : Data) → HasMember k d ms → HasMember k d al) → Each (FlawHolds al places.FieldTypeAliases (object al)) (all_alias_flaws al st ms)
     unfolding place_under content_under entries_of rows_of place_in field_place
@@ -66,47 +93,6 @@ module _ (al : Members) where
           | inl holds ↦ holds_in_object al places.FieldTypeAliases k w al f (sub k w (inl (refl, refl))) holds
           | inr (circle, steps) ↦ inr (inr (ap (λ x. x.kind) circle, ([], k, ap (λ x. key k ∷ x.path) circle, (refl, refl), steps)))
         ]) (alias_told k w each.0))) (aliases_told ms each.1 (λ q d m. sub q d (inr m)))
-
-  -- ---- the places
-
-  module _ (done : Members) (known : AreResolved al done) where
-    many_told : (s : Place) (v : Data) → lists_extra_members s ≡ true → Each (FlawHolds al s v) (too_many v)
-    unfolding too_many
-    many_told s (array es) is = elim (cases_Bool (nat_lt max_extra_members (items_len es))) [
-      | inl e ↦ rw e (a_flaw {f = here Limit} (inl (s, array es, (refl, refl), inl (es, refl, is, ltb-true max_extra_members (items_len es) e))) no_flaw)
-      | inr e ↦ rw e no_flaw
-    ]
-    many_told s _ is = no_flaw
-
-    place_told : (s : Place) (v : Data) → Each (FlawHolds al s v) (place_flaws al done s v)
-    unfolding place_flaws
-    place_told s v = go (names_alias s) refl (names_member_type s) refl (lists_extra_members s) refl
-      where
-        go : (a : Bool) → names_alias s ≡ a → (b : Bool) → names_member_type s ≡ b → (c : Bool) → lists_extra_members s ≡ c → Each (FlawHolds al s v) (place_flaws al done s v)
-        go true a b b' c c' = rw a (type_holds done known s v (inl a))
-        go false a true b c c' = rw (a, b) (limit_holds done known s v (inr b))
-        go false a false b true c = rw (a, b, c) (joined (many_told s v c) (of_itself al (Some done) (FlawHolds al) (told done known) s v))
-        go false a false b false c = rw (a, b, c) no_flaw
-
-    mutual
-      places_told : (v : Data) (s : Place) → Each (FlawHolds al s v) (inner_places al done s v)
-      places_told (array es) s = elim (cases_Bool (lists_extra_members s)) [ inl is ↦ rw is (items_told es s es 0 no_members (aligned_all es) (λ n b. absurd (none_seen n b))) | inr is ↦ rw is no_flaw ]
-      places_told (object ms) s = elim (cases_Bool (leads_on s)) [ inl is ↦ rw is (members_told ms s ms (λ k d m. m)) | inr is ↦ rw is no_flaw ]
-      places_told _ s = no_flaw
-
-      items_told : (rest : Items) (s : Place) (es : Items) (i : ℕ) (seen : Members) → Aligned es i rest → Seen es i seen → Each (FlawHolds al s (array es)) (item_places al done s i seen rest)
-      items_told no_items s es i seen left before = no_flaw
-      items_told (item e rest) s es i seen left before =
-          let there = aligned_here es i e rest left in
-          let entry = entry_told al (Some done) (FlawHolds al) (told done known) s es i seen e there before (inner_told al (Some done) (FlawHolds al) (told done known) e (place_of_items s) seen) in
-          joined (part (index i) (joined entry (each_along (λ f h. holds_in_list al s i e es f there h) (places_told e (place_of_items s)))))
-          (items_told rest s es (suc i) (mark e seen) (aligned_next es i e rest left) (seen_next_at es i e seen there before))
-
-      members_told : (rest : Members) (s : Place) (ms : Members) → ((k : List ℕ) (d : Data) → HasMember k d rest → HasMember k d ms) → Each (FlawHolds al s (object ms)) (member_places al done s rest)
-      members_told no_members s ms sub = no_flaw
-      members_told (member k d rest) s ms sub =
-          joined (part (key k) (each_along (λ f h. holds_in_object al s k d ms f (sub k d (inl (refl, refl))) h) (joined (place_told (place_under s k) d) (places_told d (place_under s k)))))
-          (members_told rest s ms (λ q e m. sub q e (inr m)))
 
 -- ---- seen from the configuration
 
@@ -150,15 +136,15 @@ module _ (t : Data) (f : Flaw) (apart : NoClash (aliases_of t)) where
       let all = aliases_told (aliases_of t) (rounds_of t) known (rounds_open (aliases_of t) apart (members_len (aliases_of t))) (aliases_of t) each (λ k d m. m) in
       lift_aliases (aliases_of t) t g (λ none. let bad : refusal (all_alias_flaws (aliases_of t) (rounds_of t) no_members) ≡ Err g = ap (λ x. refusal (all_alias_flaws (aliases_of t) (rounds_of t) x)) (sym none) ∙ h in cc) (first_told g all h)
 
-  after_aliases : refusal (all_alias_flaws (aliases_of t) (rounds_of t) (aliases_of t)) ≡ Ok tt → (refusal (inner_places (aliases_of t) (rounds_of t).done places.Root t) >>= (λ b. if_shallow (lay (rounds_of t).done places.Root t None))) ≡ Err f → RefusalHolds t f
-  after_aliases a h = elim (err_then (refusal (inner_places (aliases_of t) (rounds_of t).done places.Root t)) (λ b. if_shallow (lay (rounds_of t).done places.Root t None)) f h) [
-    | inl e ↦ inl (first_told f (places_told (aliases_of t) (rounds_of t).done (rounds_resolved (aliases_of t) (members_len (aliases_of t)) (found_each (aliases_of t) apart)) t places.Root) e)
-    | inr (b, e) ↦ inr (lay (rounds_of t).done places.Root t None, laid_resolves t (aliases_of t) (members_len (aliases_of t)) (rounds_of t) refl apart refl (no_flaws (all_alias_flaws (aliases_of t) (rounds_of t) (aliases_of t)) a) (no_flaws (inner_places (aliases_of t) (rounds_of t).done places.Root t) b), err_shallow (lay (rounds_of t).done places.Root t None) f e)
+  after_aliases : refusal (all_alias_flaws (aliases_of t) (rounds_of t) (aliases_of t)) ≡ Ok tt → (refusal (whole_flaws (aliases_of t) (rounds_of t).done t) >>= (λ b. if_shallow (lay (rounds_of t).done places.Root t None))) ≡ Err f → RefusalHolds t f
+  after_aliases a h = elim (err_then (refusal (whole_flaws (aliases_of t) (rounds_of t).done t)) (λ b. if_shallow (lay (rounds_of t).done places.Root t None)) f h) [
+    | inl e ↦ inl (first_told f (known_holds (aliases_of t) (rounds_of t).done (rounds_resolved (aliases_of t) (members_len (aliases_of t)) (found_each (aliases_of t) apart)) true places.Root t) e)
+    | inr (b, e) ↦ inr (lay (rounds_of t).done places.Root t None, laid_resolves t (aliases_of t) (members_len (aliases_of t)) (rounds_of t) refl apart refl (no_flaws (all_alias_flaws (aliases_of t) (rounds_of t) (aliases_of t)) a) (no_flaws (whole_flaws (aliases_of t) (rounds_of t).done t) b), err_shallow (lay (rounds_of t).done places.Root t None) f e)
   ]
 
   -- the kind of a refusal holds at its path
   pub refusal_holds : resolution t ≡ Err f → RefusalHolds t f
-  refusal_holds h = elim (err_aliases (refusal (all_alias_flaws (aliases_of t) (rounds_of t) (aliases_of t))) (λ a. refusal (inner_places (aliases_of t) (rounds_of t).done places.Root t) >>= (λ b. if_shallow (lay (rounds_of t).done places.Root t None))) f h) [
+  refusal_holds h = elim (err_aliases (refusal (all_alias_flaws (aliases_of t) (rounds_of t) (aliases_of t))) (λ a. refusal (whole_flaws (aliases_of t) (rounds_of t).done t) >>= (λ b. if_shallow (lay (rounds_of t).done places.Root t None))) f h) [
     | inl (g, e, is) ↦ inl (subst (FlawHolds (aliases_of t) places.Root t) (sym is) (alias_refused g e))
     | inr (a, e) ↦ after_aliases a e
   ]
@@ -175,11 +161,17 @@ resolved_or_refused t apart = go (resolution t) refl
 
 -- ---- all of a tree that has a resolution
 
-told_excluded : (aliases : Members) (kind : FaultKind) (s : Place) (w : Data) → SoundAt aliases s w → ¬ ListsTooMany s w → ¬ Tells aliases kind s w
-told_excluded aliases WrongKind s w h few told = true≢false (sym told ∙ (own_sound aliases s h.taken w (joined_empty _ _ h.sound).0).right)
-told_excluded aliases NoSuchAlias s w h few told = true≢false (sym told ∙ (own_sound aliases s h.taken w (joined_empty _ _ h.sound).0).known)
-told_excluded aliases Limit s w h few told = few told
-told_excluded aliases _ s w h few told = absurd told
+told_excluded : (aliases : Members) (kind : FaultKind) (s : Place) (w : Data) → SoundAt aliases s w → ¬ Tells aliases kind s w
+told_excluded aliases kind s w h told = go kind told
+  where
+    own : OwnSound (known_in aliases) s h.taken w
+    own = own_sound (known_in aliases) s h.taken w (joined_empty _ _ h.sound).0
+
+    go : (kind : FaultKind) → ¬ Tells aliases kind s w
+    go WrongKind told = true≢false (sym told ∙ own.right)
+    go NoSuchAlias told = let bad : Some NoSuchAlias ≡ None = sym told ∙ own.known in absurd cc
+    go Limit told = true≢false (sym told ∙ own.few)
+    go _ told = absurd told
 
 module _ (text : List ℕ) (t r : Data) (tree : IsTreeOf text t) (h : resolution t ≡ Ok r) where
   apart : NoClash (aliases_of t)
@@ -191,36 +183,33 @@ module _ (text : List ℕ) (t r : Data) (tree : IsTreeOf text t) (h : resolution
   abbrev done : Members
   done = (rounds_of t).done
 
-  root_sound : SoundAt (aliases_of t) places.Root t
-  root_sound = record { taken = false; seen = no_members; sound = flawless (aliases_of t) done t sound.at_places }
-
   known : AreResolved (aliases_of t) done
   known = rounds_resolved (aliases_of t) (members_len (aliases_of t)) (found_each (aliases_of t) apart)
 
   all_known : (n : List ℕ) → has (aliases_of t) n ≡ true → has done n ≡ true
   all_known = all_done (aliases_of t) (rounds_of t) sound.outcomes (rounds_reached (aliases_of t) (members_len (aliases_of t)) (found_each (aliases_of t) apart))
 
+  fit : (path : List Step) (s : Place) (w : Data) → Leads places.Root t path s w → IsFit (aliases_of t) done known all_known s w
+  fit path s w leads = fit_along (aliases_of t) done known all_known path places.Root t s w (root_fit (aliases_of t) done known all_known t (read_in_order text t tree.0.1) sound.whole) leads
+
+  sound_at : (path : List Step) (s : Place) (w : Data) → Leads places.Root t path s w → SoundAt (aliases_of t) s w
+  sound_at path s w leads = fit_sound (aliases_of t) done known all_known s w (fit path s w leads)
+
   -- what a value is laid to is what it is looked up as, under whatever resolved aliases
   laid : (others : Members) (s : Place) (w : Data) → AreResolved (aliases_of t) others → SoundAt (aliases_of t) s w → all_named (has others) s w ≡ true → Looks (aliases_of t) s (w ∷ []) (lay others s w None)
   laid others s w resolved at named = lays (aliases_of t) others resolved w s at named [] None refl
 
-  fine : (path : List Step) (s : Place) (w : Data) → Leads places.Root t path s w → IsFine done s w
-  fine path s w leads = all_fine (aliases_of t) done known all_known t path s w root_sound (read_in_order text t tree.0.1) sound.at_places leads
-
   passes_excluded : (kind : FaultKind) (path : List Step) (s : Place) (w : Data) → Leads places.Root t path s w → ¬ Passes (aliases_of t) kind s w
   passes_excluded kind path s w leads (names, (others, resolved, named, past)) =
-      let at = sound_along (aliases_of t) path places.Root t s w root_sound leads in
+      let at = sound_at path s w leads in
       let mine = laid done s w known at (sound_named (aliases_of t) done known all_known s w at) in
       let same = one_look (aliases_of t) (laid others s w resolved at named) mine in
-      apart_fits kind (lay done s w None) ((fine path s w leads).0 names) (subst (Exceeds kind) same past)
+      apart_fits kind (lay done s w None) (type_fit (aliases_of t) done known all_known s w (fit path s w leads) names) (subst (Exceeds kind) same past)
 
   flaw_excluded : (flaw : Flaw) → ¬ FlawHolds (aliases_of t) places.Root t flaw
-  flaw_excluded flaw (inl (s, w, leads, inl told)) =
-      let at = sound_along (aliases_of t) flaw.path places.Root t s w root_sound leads in
-      told_excluded (aliases_of t) flaw.kind s w at (fine flaw.path s w leads).1 told
+  flaw_excluded flaw (inl (s, w, leads, inl told)) = told_excluded (aliases_of t) flaw.kind s w (sound_at flaw.path s w leads) told
   flaw_excluded flaw (inl (s, w, leads, inr past)) = passes_excluded flaw.kind flaw.path s w leads past
-  flaw_excluded flaw (inr (inl (kind, (front, s, es, i, j, n, is, leads, lists, before, first, second)))) =
-      no_twice es i j n (sound_entries (aliases_of t) s es lists (sound_along (aliases_of t) front places.Root t s (array es) root_sound leads)) before first second
+  flaw_excluded flaw (inr (inl (kind, (front, s, es, i, j, n, is, leads, lists, before, first, second)))) = no_twice es i j n (sound_entries (aliases_of t) s es lists (sound_at front s (array es) leads)) before first second
   flaw_excluded flaw (inr (inr (kind, (front, k, is, leads, walks)))) = circle_refused t r k apart walks h
 
   -- no fault of inheritance holds of it

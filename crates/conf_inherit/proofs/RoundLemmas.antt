@@ -6,12 +6,12 @@ use Rattle.std.specs.Prelude.{⊤}
 use Rattle.serde_json.specs.{Data.{Data, null, Members, no_members, member, put}, Find.get_member, Events.members_len}
 use Rattle.serde_json.proofs.Views.{get_member-put_other}
 use Rattle.conf_tree.specs.{Flaw.{Flaw, key, within}, Walk.refusal, declared.fault_kind.FaultKind.FaultKind, Reading.◌>>=◌}
-use Rattle.conf_inherit.specs.{AliasFlaws.{over_names, first_or_circle, alias_flaws, all_alias_flaws}, Flaws.{flaws, type_flaws}}
-use Rattle.conf_inherit.specs.{Laying.lay, Named.{all_named, has}, SameFlaw.is_same_flaw, Circle.{Mentions, Walks}}
+use Rattle.conf_inherit.specs.{AliasFlaws.{open_in, is_circle, first_or_circle, alias_flaws, all_alias_flaws}, Flaws.{flaws, asked_flaws, type_flaws, whole_flaws}}
+use Rattle.conf_inherit.specs.{Laying.lay, Named.{all_named, has}, Circle.{Mentions, Walks}}
 use Rattle.conf_inherit.specs.{Limits.{fitting, passed, limit_flaws}, Looks.{Looks, AreResolved}, Names.NoClash, Nesting.{nests, deep_flaws}}
 use Rattle.conf_inherit.specs.Rounds.{Outcomes, has_outcome, is_over, is_empty, if_fitting, outcome, concluded, step, round, all_over, rounds, no_outcomes, Reached, at_first, turned}
-use Rattle.conf_inherit.specs.{Resolution.{aliases_of, Resolves, from_aliases, if_shallow, resolution_after, resolution_under, resolution}, Places.inner_places}
-use Rattle.conf_inherit.proofs.{LimitLemmas.{fits_inside, kept_flaws, fitting_value}, SizeLemmas.shallow_nests, SoundPlaces.flawless}
+use Rattle.conf_inherit.specs.Resolution.{aliases_of, Resolves, from_aliases, if_shallow, resolution_after, resolution_under, resolution}
+use Rattle.conf_inherit.proofs.{LimitLemmas.{kept_flaws, fitting_value}, SizeLemmas.shallow_nests}
 use Rattle.conf_inherit.proofs.LayingLemmas.{some_is_none, Meets, same, other, meets, put_found, AllEntries, entry_found, found_each, get_other}
 use Rattle.conf_inherit.proofs.{LaysOver.lays, FaultLemmas.{named, named_along, blocked, mentioned, is_still, is_put, part_empty, joined_empty, some_of}}
 use Rattle.conf_table.specs.declared.place.Place.TheVariants as places
@@ -78,7 +78,7 @@ module _ (al : Members) where
   outcome_looks done w r known h =
       let is = outcome_is al done w r h in
       subst (Looks al places.FieldType (w ∷ [])) (fitting_value (lay done places.FieldType w None) r is.fits)
-      (lays al done known w places.FieldType (record { taken = false; seen = no_members; sound = (fits_inside done al w places.FieldType false no_members is.flawless).0 }) is.named [] None refl)
+      (lays al done known w places.FieldType (record { resolved = Some done; outside = false; taken = false; seen = no_members; sound = is.flawless }) is.named [] None refl)
 
   resolved_more : (done : Members) (k : List ℕ) (w r : Data) → AreResolved al done → get_member k al ≡ Some w → Looks al places.FieldType (w ∷ []) r → AreResolved al (put k r done)
   resolved_more done k w r known is l n t h = elim (meets n k) [
@@ -138,10 +138,9 @@ module _ (al : Members) where
 -- ---- without a flaw, every alias is resolved
 
 -- an alias without an outcome has a flaw
-open_flawed : (own known : Result ⊤ Flaw) → first_or_circle own known ≡ [] → ⊥
-open_flawed (Ok x) known h = cc
-open_flawed (Err f) (Ok x) h = cc
-open_flawed (Err f) (Err g) h = elim (cases_Bool (is_same_flaw f g)) [ inl is ↦ (let bad = rw is at h in cc) | inr is ↦ (let bad = rw is at h in cc) ]
+open_flawed : (found : Result ⊤ Flaw) → first_or_circle found ≡ [] → ⊥
+open_flawed (Ok x) h = cc
+open_flawed (Err f) h = elim (cases_Bool (is_circle f.kind)) [ inl is ↦ (let bad = rw is at h in cc) | inr is ↦ (let bad = rw is at h in cc) ]
 
 each_sound : (al : Members) (st : Outcomes) (ms : Members) → all_alias_flaws al st ms ≡ [] → AllEntries (λ k w. alias_flaws al st k w ≡ []) ms
 each_sound al st no_members h = tt
@@ -153,7 +152,7 @@ module _ (al : Members) (last : Outcomes) (sound : all_alias_flaws al last al �
 
   -- a type without a flaw names aliases alone
   sound_names : (w : Data) → type_flaws al last.done places.FieldType w ≡ [] → all_named (has al) places.FieldType w ≡ true
-  sound_names w none = named al (Some last.done) (has al) (λ n x. x) w places.FieldType false no_members (joined_empty _ _ none).0
+  sound_names w none = named al (Some last.done) (has al) (λ n x. x) w false places.FieldType false no_members (joined_empty _ _ none).0
 
   -- no alias is refused in a state that leads to the last one
   abbrev NoneRefused : Outcomes → Type 0
@@ -184,7 +183,7 @@ module _ (al : Members) (last : Outcomes) (sound : all_alias_flaws al last al �
         | inl e ↦ e
         | inr e ↦ elim (cases_Bool (has last.refused n)) [
           | inl f ↦ absurd (none (λ k x. (refl, refl)) n f)
-          | inr f ↦ absurd (open_flawed (refusal (type_flaws al last.done places.FieldType w)) (refusal (type_flaws (over_names al last no_members) last.done places.FieldType w)) (rw (e, f) at (sound_alias n w is)))
+          | inr f ↦ absurd (open_flawed (refusal (asked_flaws (open_in al last) last.done places.FieldType w)) (rw (e, f) at (sound_alias n w is)))
         ]
       ]
 
@@ -201,14 +200,13 @@ no_flaws (f ∷ fs) h = cc
 -- ---- a configuration without a flaw is resolved
 
 pub laid_resolves : (t : Data) (al : Members) (n : ℕ) (st : Outcomes) → al ≡ aliases_of t → NoClash al → st ≡ rounds al n no_outcomes
-    → all_alias_flaws al st al ≡ [] → inner_places al st.done places.Root t ≡ [] → Resolves t (lay st.done places.Root t None)
+    → all_alias_flaws al st al ≡ [] → whole_flaws al st.done t ≡ [] → Resolves t (lay st.done places.Root t None)
 laid_resolves t al n st is apart went sound whole =
     let each = found_each al apart in
     let known : AreResolved al st.done = subst (λ x. AreResolved al x.done) (sym went) (rounds_resolved al n each) in
-    let none = flawless al st.done t whole in
     let all = all_done al st sound (subst (Reached al) (sym went) (rounds_reached al n each)) in
     subst (λ x. Looks x places.Root (t ∷ []) (lay st.done places.Root t None)) is
-    (lays al st.done known t places.Root (record { taken = false; seen = no_members; sound = none }) (named al None (has st.done) all t places.Root false no_members none) [] None refl)
+    (lays al st.done known t places.Root (record { resolved = Some st.done; outside = true; taken = false; seen = no_members; sound = whole }) (named al (Some st.done) (has st.done) all t true places.Root false no_members whole) [] None refl)
 
 -- ---- the answer
 
@@ -233,10 +231,10 @@ ok_shallow x r h =
 abbrev pub rounds_of : Data → Outcomes
 rounds_of t = rounds (aliases_of t) (members_len (aliases_of t)) no_outcomes
 
--- where there is an answer, nothing was found in the aliases or at the places, and what is laid is shallow
+-- where there is an answer, nothing was found in the aliases or in the whole, and what is laid is shallow
 pub record TreeSound (t r : Data) : Type 0 where
   pub outcomes : all_alias_flaws (aliases_of t) (rounds_of t) (aliases_of t) ≡ []
-  pub at_places : inner_places (aliases_of t) (rounds_of t).done places.Root t ≡ []
+  pub whole : whole_flaws (aliases_of t) (rounds_of t).done t ≡ []
   pub value : lay (rounds_of t).done places.Root t None ≡ r
   pub shallow : nests r 32 ≡ true
 
@@ -245,15 +243,15 @@ tree_sound t r h =
     let al = aliases_of t in
     let st = rounds_of t in
     let first = ok_then (from_aliases (refusal (all_alias_flaws al st al))) _ r h in
-    let second = ok_then (refusal (inner_places al st.done places.Root t)) _ r first.1 in
+    let second = ok_then (refusal (whole_flaws al st.done t)) _ r first.1 in
     let last = ok_shallow (lay st.done places.Root t None) r second.1 in
-    record { outcomes = no_flaws (all_alias_flaws al st al) (sound_of _ first.0); at_places = no_flaws (inner_places al st.done places.Root t) second.0; value = last.0; shallow = last.1 }
+    record { outcomes = no_flaws (all_alias_flaws al st al) (sound_of _ first.0); whole = no_flaws (whole_flaws al st.done t) second.0; value = last.0; shallow = last.1 }
 
 -- what is answered is the resolution, and nests at most 32 deep
 pub resolution_sound : (t r : Data) → NoClash (aliases_of t) → resolution t ≡ Ok r → Resolves t r × (nests r 32 ≡ true)
 resolution_sound t r apart h =
     let sound = tree_sound t r h in
-    (subst (Resolves t) sound.value (laid_resolves t (aliases_of t) (members_len (aliases_of t)) (rounds_of t) refl apart refl sound.outcomes sound.at_places), sound.shallow)
+    (subst (Resolves t) sound.value (laid_resolves t (aliases_of t) (members_len (aliases_of t)) (rounds_of t) refl apart refl sound.outcomes sound.whole), sound.shallow)
 
 pub resolution_is : (t : Data) (al : Members) (n : ℕ) (st : Outcomes) → al ≡ aliases_of t → members_len al ≡ n → st ≡ rounds al n no_outcomes → resolution t ≡ resolution_after al st t
 resolution_is t al n st own count went =

@@ -2,17 +2,16 @@
 use Rattle.std.proofs.Common.{◌≡◌, ℕ, Some, None, List, [], ◌∷◌, string_cmp, string_bytes, nat_cmp, refl, sym, ap, ◌∙◌, ◌+◌, ◌≤◌, ◌&&◌, ◌||◌, ◌++◌, ◌⊎◌, inl, inr, suc, map, Option, is_some, Bool, true, false, not, true≢false, bytes_eq, if◌then◌else◌, subst, arith, rules}
 use Rattle.std.proofs.{lemmas.Bool.{cases_Bool, or_left}, lemmas.Slice.Eq.bytes_eq-Decides}
 use Rattle.std.specs.{BTreeMap.is_at, Cmp.Lexicographic.slice_cmp, List.Sorted.IsStrictlySortedBy, Map.{keys_of, set_value}}
-use Rattle.serde_json.specs.{Data.{Data, member, put, null, array, object, Items, no_items, item, Members, no_members}, View.{view, members_view}}
+use Rattle.serde_json.specs.{Data.{Data, member, put, null, Members, no_members}, View.{view, members_view}}
 use Rattle.serde_json.specs.{Find.get_member, declared.value.Value.{Value, Null, the_lemmas}, Events.members_len}
 use Rattle.serde_json.proofs.Views.{Entry}
 use Rattle.conf_inherit.specs.{Names.{AllAbove, NoClash}, Limits.{fitting, limit_flaws}, Named.{all_named, has}, Spent.{Spends, spent, TurnsLeave}}
-use Rattle.conf_inherit.specs.{FieldPlaces.{place_under, place_of_items, lists_extra_members, leads_on}, AliasFlaws.{over_names, alias_flaws, all_alias_flaws}}
-use Rattle.conf_inherit.specs.{Flaws.{flaws, type_flaws, mark}, Laying.lay, Places.{place_flaws, inner_places, item_places, member_places}}
+use Rattle.conf_inherit.specs.{AliasFlaws.{open_in, alias_flaws, all_alias_flaws}, Flaws.{known_in, value_flaws}, Laying.lay}
 use Rattle.conf_inherit.specs.Rounds.{Outcomes, has_outcome, is_over, is_empty, if_fitting, outcome, step, round, rounds, no_outcomes, Reached, at_first, turned, all_settled}
 use Rattle.conf_inherit.proofs.LayingLemmas.{above_of, above_through, get_none, same, other, meets, get_other, get_same, same_function, stands, some_is_none, AllEntries, found_each}
-use Rattle.conf_inherit.proofs.{RoundLemmas.{Agrees, count}, LimitLemmas.{alike_own, alike_flaws, alike_in}}
-use Rattle.conf_inherit.proofs.{TurnLemmas.{none_of, IsSettled, step_agrees, round_grows, turns_are_rounds}, FaultLemmas.{same_part}}
-use Rattle.conf_tree.specs.Flaw.{key, index, within}
+use Rattle.conf_inherit.proofs.{RoundLemmas.{Agrees, count}, LimitLemmas.{alike_flaws, alike_in}}
+use Rattle.conf_inherit.proofs.{TurnLemmas.{none_of, IsSettled, step_agrees, round_grows, turns_are_rounds}}
+use Rattle.conf_tree.specs.{Flaw.{key, within}, declared.fault_kind.FaultKind.FaultKind, declared.fault_kind.FaultKind.TheVariants.{NoSuchAlias, InheritCycle}}
 use Rattle.conf_table.specs.declared.place.Place.{Place}
 use Rattle.conf_table.specs.declared.place.Place.TheVariants as places
 
@@ -105,40 +104,25 @@ spends_apart done _ _ h apart = absurd h
 
 -- ---- what is judged by the names of the aliases alone
 
+asked_alike : (ask now : List ℕ → Option FaultKind) → ((n : List ℕ) → now n ≡ ask n) → (known : Option Members) (outside : Bool) (s : Place) (taken : Bool) (seen : Members) (v : Data) → value_flaws now known outside s taken seen v ≡ value_flaws ask known outside s taken seen v
+asked_alike ask now names known outside s taken seen v = alike_flaws ask now names known known outside s taken seen v (alike_in ask now names known known v outside s seen (λ out t d. refl) (λ d x. refl))
+
 module _ (al now : Members) (names : (n : List ℕ) → is_some (get_member n now) ≡ is_some (get_member n al)) where
-  same_flaws : (known : Option Members) (s : Place) (taken : Bool) (seen : Members) (v : Data) → flaws now known s taken seen v ≡ flaws al known s taken seen v
-  same_flaws known s taken seen v = alike_flaws al now names known known s taken seen v (alike_in al now names known known v s seen (λ d x. refl))
+  same_known : (n : List ℕ) → known_in now n ≡ known_in al n
+  same_known n = ap (λ t. if t then None else Some NoSuchAlias) (names n)
 
-  same_type : (done : Members) (s : Place) (v : Data) → type_flaws now done s v ≡ type_flaws al done s v
-  same_type done s v = ap (λ x. x ++ limit_flaws done s v) (same_flaws (Some done) s false no_members v)
+  same_open : (st : Outcomes) (n : List ℕ) → open_in now st n ≡ open_in al st n
+  same_open st n = ap (λ t. if t then (if has_outcome st n then None else Some InheritCycle) else Some NoSuchAlias) (names n)
 
-  same_place : (done : Members) (s : Place) (v : Data) → place_flaws now done s v ≡ place_flaws al done s v
-  unfolding place_flaws
-  same_place done s v = let type = same_type done s v in let own = alike_own al now names s false v in cc
-
-  mutual
-    -- what is wrong at the places of a configuration
-    pub same_places : (done : Members) (s : Place) (v : Data) → inner_places now done s v ≡ inner_places al done s v
-    same_places done s (array es) = ap (λ x. if lists_extra_members s then x else []) (same_item_places done s 0 no_members es)
-    same_places done s (object ms) = ap (λ x. if leads_on s then x else []) (same_member_places done s ms)
-    same_places done s _ = refl
-
-    same_item_places : (done : Members) (s : Place) (i : ℕ) (seen : Members) (es : Items) → item_places now done s i seen es ≡ item_places al done s i seen es
-    same_item_places done s i seen no_items = refl
-    same_item_places done s i seen (item e es) =
-        same_part (within (index i)) _ _ _ _ _ _ (same_flaws (Some done) (place_of_items s) false seen e) (same_places done (place_of_items s) e) (same_item_places done s (suc i) (mark e seen) es)
-
-    same_member_places : (done : Members) (s : Place) (ms : Members) → member_places now done s ms ≡ member_places al done s ms
-    same_member_places done s no_members = refl
-    same_member_places done s (member k d ms) =
-        same_part (within (key k)) _ _ _ _ _ _ (same_place done (place_under s k) d) (same_places done (place_under s k) d) (same_member_places done s ms)
+  pub same_flaws : (known : Option Members) (outside : Bool) (s : Place) (taken : Bool) (seen : Members) (v : Data) → value_flaws (known_in now) known outside s taken seen v ≡ value_flaws (known_in al) known outside s taken seen v
+  same_flaws known outside s taken seen v = asked_alike (known_in al) (known_in now) same_known known outside s taken seen v
 
   same_due : (st : Outcomes) (w : Data) → all_named (is_over now st) places.FieldType w ≡ all_named (is_over al st) places.FieldType w
   same_due st w = ap (λ p. all_named p places.FieldType w) (same_function (is_over now st) (is_over al st) (λ n. ap (λ t. has_outcome st n || not t) (names n)))
 
   same_outcome : (done : Members) (w : Data) → outcome now done w ≡ outcome al done w
   same_outcome done w =
-      ap (λ x. if all_named (has done) places.FieldType w && is_empty x then if_fitting (fitting (lay done places.FieldType w None)) else None) (same_flaws (Some done) places.FieldType false no_members w)
+      ap (λ x. if all_named (has done) places.FieldType w && is_empty x then if_fitting (fitting (lay done places.FieldType w None)) else None) (same_flaws (Some done) false places.FieldType false no_members w)
 
   same_step : (k : List ℕ) (w : Data) (st : Outcomes) → step now k w st ≡ step al k w st
   same_step k w st = let due = same_due st w in let value = same_outcome st.done w in cc
@@ -154,18 +138,13 @@ spent_same f st k v w (inr is) resolved = resolved is.1
 
 -- ---- what is wrong with the aliases
 
-same_over_names : (ms vs : Members) (done : Members) (st : Outcomes) (over : Members) → Spends done ms vs → over_names vs st over ≡ over_names ms st over
-same_over_names no_members no_members done st over h = refl
-same_over_names (member k w ms) (member j v vs) done st over h =
-    ap (λ l. over_names vs st (if has_outcome st l then put l null over else over)) (sym h.0) ∙ same_over_names ms vs done st (if has_outcome st k then put k null over else over) h.1.1
-same_over_names _ _ done st over h = absurd h
-
 module _ (al now : Members) (st : Outcomes) (left : Spends st.done al now) where
   same_flaws_at : (k : List ℕ) (w : Data) → alias_flaws now st k w ≡ alias_flaws al st k w
   unfolding alias_flaws
   same_flaws_at k w =
-      let own = same_type al now (same_names st.done al now left) st.done places.FieldType w in
-      let known = ap (λ x. type_flaws x st.done places.FieldType w) (same_over_names al now st.done st no_members left) in
+      let names = same_names st.done al now left in
+      let own = same_flaws al now names (Some st.done) false places.FieldType false no_members w in
+      let opened = asked_alike (open_in al st) (open_in now st) (same_open al now names st) (Some st.done) false places.FieldType false no_members w in
       cc
 
   spent_flaws_at : (k j : List ℕ) (v w : Data) → k ≡ j → (v ≡ w) ⊎ ((v ≡ null) × (has st.done k ≡ true)) → map (within (key j)) (alias_flaws al st j v) ≡ map (within (key k)) (alias_flaws al st k w)

@@ -1,6 +1,6 @@
 -- The aliases of a configuration: that each was resolved as it is laid, and is sound.
-use Rattle.std.proofs.Common.{arith, string_bytes, ◌≡◌, ◌++◌, ℕ, List, [], map, Option, Some, None, Result, Ok, Err, is_some, true, false, true≢false, refl, sym, ap, ◌∙◌, subst, inl, inr, if◌then◌else◌, ◌∷◌, option_and_then, ◌⊎◌, suc}
-use Rattle.std.proofs.{lemmas.Bool.{cases_Bool, or_left}, lemmas.Slice.Eq.{bytes_eq-Decides}, lemmas.Map.Text.{is_eq-slice_cmp}}
+use Rattle.std.proofs.Common.{arith, string_bytes, ◌≡◌, ◌++◌, ◌&&◌, ℕ, List, [], map, Option, Some, None, Result, Ok, Err, is_some, true, false, true≢false, refl, sym, ap, ◌∙◌, subst, inl, inr, if◌then◌else◌, ◌∷◌, option_and_then, ◌⊎◌, suc}
+use Rattle.std.proofs.{lemmas.Bool.{cases_Bool, or_left, or_parts}, lemmas.Slice.Eq.{bytes_eq-Decides}, lemmas.Map.Text.{is_eq-slice_cmp}}
 use Rattle.std.proofs.lemmas.Result.{err_from_is_err_and}
 use Rattle.std.specs.{Prelude.{⊤}, Str.{bytes_eq}, Result.{IsErrAnd}}
 use Rattle.serde_json.specs.{Data.{Data, null, object, Members, no_members, member, string, array, put}, declared.value.Value.{Value}}
@@ -9,18 +9,18 @@ use Rattle.serde_json.proofs.Views.{Entry}
 use Rattle.conf_tree.specs.{Flaw.{Flaw, key, within, flaw_of, IsMemory}, Walk.{refusal}, Reading.{◌>>=◌, Gives}, declared.fault.ConfFault.{ConfFault}}
 use Rattle.conf_table.specs.declared.place.Place.TheVariants as places
 use Rattle.conf_table.specs.{declared.place.Place.{Place}, Table.{rows_of, entries_of, content_under, place_in}}
-use Rattle.conf_inherit.specs.{AliasFlaws.{all_alias_flaws}, Flaws.{type_flaws}, Limits.{limit_flaws}, Names.{NoClash}, Spent.{Spends}}
+use Rattle.conf_inherit.specs.{AliasFlaws.{all_alias_flaws}, Flaws.{known_in, own_flaws, alone_flaws, is_outside, inner_flaws, member_flaws, value_flaws, type_flaws, whole_flaws}, Limits.{limit_flaws}, Names.{NoClash}, Spent.{Spends}}
 use Rattle.conf_inherit.specs.Laying.{lay, lay_base, lay_members, lay_text}
 use Rattle.conf_inherit.specs.{Whole.{AreLaid, at_way, with_property, in_property, in_object, with_object, with_aliases}, Named.{has}}
-use Rattle.conf_inherit.specs.FieldPlaces.{field_place, place_under, names_alias, is_base_name, lists_extra_members, leads_on, names_member_type, lists_members}
-use Rattle.conf_inherit.specs.{Places.{place_flaws, inner_places, member_places}, Rounds.{Outcomes, has_outcome, outcome, rounds, no_outcomes, Reached}}
+use Rattle.conf_inherit.specs.FieldPlaces.{field_place, place_under, names_alias, names_member_type, names_type, is_base_name, lists_members, is_entry}
+use Rattle.conf_inherit.specs.Rounds.{Outcomes, has_outcome, outcome, rounds, no_outcomes, Reached}
 use Rattle.conf_inherit.specs.Resolution.{trace_name, type_name, aliases_name, from_aliases, aliases_of, members_or_none, if_shallow, resolution_after}
 use Rattle.conf_inherit.specs.Nesting.{members_nest, deep_flaws, deep_member_flaws}
-use Rattle.conf_inherit.proofs.FieldPlaceLemmas.{trace_place, trace_type_place, aliases_place}
+use Rattle.conf_inherit.proofs.{FieldPlaceLemmas.{trace_place, trace_type_place, aliases_place}, WorkedPlaces.leads_on}
 use Rattle.conf_inherit.proofs.LayingLemmas.{differs, cases_Option, same_members, in_order_lay, lay_members-absent, lay_members-found, same, other, meets, get_other, get_same, AllEntries, all_along, found_each, equal_names, apart_greater}
-use Rattle.conf_inherit.proofs.{LimitLemmas.{fitting_value}, SoundPlaces.{parts}}
+use Rattle.conf_inherit.proofs.LimitLemmas.{fitting_value}
 use Rattle.conf_inherit.proofs.{RoundLemmas.{no_flaws, sound_of, outcome_is, all_done, rounds_reached}, FaultLemmas.{some_of}, TurnLemmas.{reached_sound}}
-use Rattle.conf_inherit.proofs.{SpentLemmas.{written, same_names, same_alias_flaws, same_places}, SizeLemmas.{nests_shallow}}
+use Rattle.conf_inherit.proofs.{SpentLemmas.{written, same_names, same_alias_flaws, same_flaws}, SizeLemmas.{nests_shallow}}
 
 -- ---- an object that has the aliases in it
 
@@ -81,24 +81,15 @@ sound_outcome al done w r h =
     let fits = is.fits in
     ap (λ fs. fs ++ limit_flaws done places.FieldType w) is.flawless ∙ rw (named, fits) refl
 
--- a field type has no places below it
-no_places : (al done : Members) (w : Data) → inner_places al done places.FieldType w ≡ []
-unfolding lists_extra_members leads_on
-no_places al done null = refl
-no_places al done _ = refl
+sound_aliases : (al done ms : Members) → AllEntries (λ k w. type_flaws al done places.FieldType w ≡ []) ms → member_flaws (known_in al) (Some done) true places.FieldTypeAliases no_members ms ≡ []
+unfolding place_under content_under entries_of rows_of place_in field_place names_alias is_base_name is_entry alone_flaws
+sound_aliases al done no_members each = refl
+sound_aliases al done (member k w ms) each =
+    ap (λ fs. map (within (key k)) fs ++ member_flaws (known_in al) (Some done) true places.FieldTypeAliases no_members ms) each.0 ∙ sound_aliases al done ms each.1
 
-sound_place : (al done : Members) (k : List ℕ) (w : Data) → type_flaws al done places.FieldType w ≡ [] → (place_flaws al done (place_under places.FieldTypeAliases k) w ++ inner_places al done (place_under places.FieldTypeAliases k) w) ≡ []
-unfolding place_flaws place_under content_under entries_of rows_of place_in field_place names_alias
-sound_place al done k w sound = ap (λ fs. fs ++ inner_places al done places.FieldType w) sound ∙ no_places al done w
-
-sound_places : (al done ms : Members) → AllEntries (λ k w. type_flaws al done places.FieldType w ≡ []) ms → member_places al done places.FieldTypeAliases ms ≡ []
-sound_places al done no_members each = refl
-sound_places al done (member k w ms) each =
-    ap (λ fs. map (within (key k)) fs ++ member_places al done places.FieldTypeAliases ms) (sound_place al done k w each.0) ∙ sound_places al done ms each.1
-
-pub whole_sound : (al : Members) (n : ℕ) (st : Outcomes) → NoClash al → st ≡ rounds al n no_outcomes → from_aliases (refusal (all_alias_flaws al st al)) ≡ Ok tt → member_places al st.done places.FieldTypeAliases al ≡ []
+pub whole_sound : (al : Members) (n : ℕ) (st : Outcomes) → NoClash al → st ≡ rounds al n no_outcomes → from_aliases (refusal (all_alias_flaws al st al)) ≡ Ok tt → member_flaws (known_in al) (Some st.done) true places.FieldTypeAliases no_members al ≡ []
 whole_sound al n st apart turned sound =
-    sound_places al st.done al (all_along (λ k w. get_member k al ≡ Some w) (λ k w. type_flaws al st.done places.FieldType w ≡ []) each al (found_each al apart))
+    sound_aliases al st.done al (all_along (λ k w. get_member k al ≡ Some w) (λ k w. type_flaws al st.done places.FieldType w ≡ []) each al (found_each al apart))
   where
     each : (k : List ℕ) (w : Data) → get_member k al ≡ Some w → type_flaws al st.done places.FieldType w ≡ []
     each k w is =
@@ -150,17 +141,17 @@ object_twice al ns _ = refl
 
 -- what holds of two such values along the way, from the object of the aliases up, holds of the configuration
 pub on_way : (P : Place → (Data → Data) → (Data → Data) → Type 0) (al ns : Members) → P places.FieldTypeAliases (in_object al) (in_object ns)
-    → ((s : Place) (n : List ℕ) (f g : Data → Data) → leads_on s ≡ true → P (place_under s n) f g → P s (in_property n f) (in_property n g)) → P places.Root (with_aliases al) (with_aliases ns)
+    → ((s : Place) (n : List ℕ) (f g : Data → Data) → leads_on s ≡ true → leads_on (place_under s n) ≡ true → P (place_under s n) f g → P s (in_property n f) (in_property n g)) → P places.Root (with_aliases al) (with_aliases ns)
 unfolding with_aliases leads_on
 on_way P al ns last next =
-    let aliases = next places.TraceType aliases_name (in_object al) (in_object ns) refl (subst (λ s. P s (in_object al) (in_object ns)) (sym aliases_place) last) in
+    let aliases = next places.TraceType aliases_name (in_object al) (in_object ns) refl (rw aliases_place refl) (subst (λ s. P s (in_object al) (in_object ns)) (sym aliases_place) last) in
     let f = in_property aliases_name (in_object al) in
     let g = in_property aliases_name (in_object ns) in
-    let type = next places.Trace type_name f g refl (subst (λ s. P s f g) (sym trace_type_place) aliases) in
-    next places.Root trace_name (in_property type_name f) (in_property type_name g) refl (subst (λ s. P s (in_property type_name f) (in_property type_name g)) (sym trace_place) type)
+    let type = next places.Trace type_name f g refl (rw trace_type_place refl) (subst (λ s. P s f g) (sym trace_type_place) aliases) in
+    next places.Root trace_name (in_property type_name f) (in_property type_name g) refl (rw trace_place refl) (subst (λ s. P s (in_property type_name f) (in_property type_name g)) (sym trace_place) type)
 
 pub aliases_twice : (al ns : Members) (t : Data) → with_aliases al (with_aliases ns t) ≡ with_aliases al t
-aliases_twice al ns t = on_way (λ s f g. (v : Data) → f (g v) ≡ f v) al ns (object_twice al ns) (λ s n f g above each. value_twice n f g f each) t
+aliases_twice al ns t = on_way (λ s f g. (v : Data) → f (g v) ≡ f v) al ns (object_twice al ns) (λ s n f g above on each. value_twice n f g f each) t
 
 own_object : (al : Members) (d : Data) → al ≡ members_or_none (Some d) → in_object al d ≡ d
 own_object al (object ms) h = ap object h
@@ -188,39 +179,69 @@ bare_again t es v none taken =
     let bare : v ≡ with_aliases no_members t = taken ∙ ap (λ xs. with_aliases (members_view xs) t) none in
     ap (with_aliases no_members) bare ∙ aliases_twice no_members no_members t ∙ sym bare
 
--- ---- what is wrong at the places, whatever sound aliases there are
+-- ---- what is wrong with the whole, whatever sound aliases there are
+
+no_type : (s : Place) → leads_on s ≡ true → names_type s ≡ false
+unfolding leads_on names_alias names_member_type
+no_type places.FieldType above = absurd (true≢false (sym above))
+no_type places.Member above = absurd (true≢false (sym above))
+no_type _ above = refl
+
+no_list : (s : Place) → leads_on s ≡ true → lists_members s ≡ false
+unfolding leads_on lists_members
+no_list places.Members h = absurd (true≢false (sym h))
+no_list places.ExtraMembers h = absurd (true≢false (sym h))
+no_list _ h = refl
+
+no_entry : (s : Place) → leads_on s ≡ true → is_entry s ≡ false
+unfolding leads_on is_entry
+no_entry places.Entry above = absurd (true≢false (sym above))
+no_entry _ above = refl
 
 module _ (al done : Members) where
-  -- an object with the aliases in it is no field type
-  no_type : (s : Place) (v : Data) → leads_on s ≡ true → place_flaws al done s v ≡ []
-  unfolding leads_on place_flaws names_alias names_member_type lists_extra_members
-  no_type places.FieldType v above = absurd (true≢false (sym above))
-  no_type places.Member v above = absurd (true≢false (sym above))
-  no_type places.ExtraMembers v above = absurd (true≢false (sym above))
-  no_type _ v above = refl
+  -- an object with the aliases in it has no flaw of its own
+  own_none : (s : Place) (ms : Members) → leads_on s ≡ true → own_flaws (known_in al) s false (object ms) ≡ []
+  unfolding own_flaws
+  own_none s ms above = let type = no_type s above in rw (no_list s above, no_entry s above, (or_parts (names_alias s) (names_member_type s) type).1) refl
 
-  module _ (s : Place) (n : List ℕ) (f g : Data → Data) (above : leads_on s ≡ true) (alike : (d : Data) → parts al done (place_under s n) (f d) ≡ parts al done (place_under s n) (g d)) where
-    members_alike : (ms : Members) → member_places al done s (with_property n f ms) ≡ member_places al done s (with_property n g ms)
+  -- the flaws of a property
+  abbrev property_flaws : Place → List ℕ → Data → List Flaw
+  property_flaws s k d =
+      (own_flaws (known_in al) (place_under s k) (is_entry s && false) d ++ inner_flaws (known_in al) (Some done) (is_outside true (place_under s k)) (place_under s k) no_members d) ++ alone_flaws (Some done) true s k d
+
+  property_there : (s : Place) (k : List ℕ) (d : Data) → leads_on s ≡ true → leads_on (place_under s k) ≡ true → property_flaws s k d ≡ value_flaws (known_in al) (Some done) true (place_under s k) false no_members d ++ []
+  unfolding alone_flaws
+  property_there s k d above on = rw (no_entry s above, no_base s k above, no_type (place_under s k) on) refl
+
+  module _ (s : Place) (n : List ℕ) (f g : Data → Data) (above : leads_on s ≡ true) (on : leads_on (place_under s n) ≡ true)
+      (alike : (d : Data) → value_flaws (known_in al) (Some done) true (place_under s n) false no_members (f d) ≡ value_flaws (known_in al) (Some done) true (place_under s n) false no_members (g d)) where
+    property_alike : (k : List ℕ) (d : Data) → k ≡ n → property_flaws s k (f d) ≡ property_flaws s k (g d)
+    property_alike k d one = subst (λ x. property_flaws s x (f d) ≡ property_flaws s x (g d)) (sym one) (property_there s n (f d) above on ∙ ap (λ fs. fs ++ []) (alike d) ∙ sym (property_there s n (g d) above on))
+
+    members_alike : (ms : Members) → member_flaws (known_in al) (Some done) true s no_members (with_property n f ms) ≡ member_flaws (known_in al) (Some done) true s no_members (with_property n g ms)
     members_alike no_members = refl
-    members_alike (member k d ms) = grind (arith, alike d, (bytes_eq-Decides k n).0, members_alike ms)
+    members_alike (member k d ms) = elim (cases_Bool (bytes_eq k n)) [
+      | inl is ↦ rw is (ap (λ fs. map (within (key k)) fs ++ member_flaws (known_in al) (Some done) true s no_members ms) (property_alike k d ((bytes_eq-Decides k n).0 is)))
+      | inr is ↦ rw is (ap (λ fs. map (within (key k)) (property_flaws s k d) ++ fs) (members_alike ms))
+    ]
 
-    alike_under : (v : Data) → parts al done s (in_property n f v) ≡ parts al done s (in_property n g v)
-    alike_under (object ms) = rw (no_type s (object (with_property n f ms)) above, no_type s (object (with_property n g ms)) above) (ap (λ fs. if leads_on s then fs else []) (members_alike ms))
+    alike_under : (v : Data) → value_flaws (known_in al) (Some done) true s false no_members (in_property n f v) ≡ value_flaws (known_in al) (Some done) true s false no_members (in_property n g v)
+    alike_under (object ms) = rw (own_none s (with_property n f ms) above, own_none s (with_property n g ms) above) (members_alike ms)
     alike_under _ = refl
 
-  module _ (ms ns : Members) (alike : member_places al done places.FieldTypeAliases ms ≡ member_places al done places.FieldTypeAliases ns) where
-    alike_object : (v : Data) → parts al done places.FieldTypeAliases (in_object ms v) ≡ parts al done places.FieldTypeAliases (in_object ns v)
-    unfolding leads_on place_flaws names_alias names_member_type lists_extra_members
-    alike_object (object os) = alike
+  module _ (ms ns : Members) (alike : member_flaws (known_in al) (Some done) true places.FieldTypeAliases no_members ms ≡ member_flaws (known_in al) (Some done) true places.FieldTypeAliases no_members ns) where
+    alike_object : (v : Data) → value_flaws (known_in al) (Some done) true places.FieldTypeAliases false no_members (in_object ms v) ≡ value_flaws (known_in al) (Some done) true places.FieldTypeAliases false no_members (in_object ns v)
+    unfolding leads_on
+    alike_object (object os) = rw (own_none places.FieldTypeAliases ms refl, own_none places.FieldTypeAliases ns refl) alike
     alike_object _ = refl
 
-    alike_aliases : (t : Data) → inner_places al done places.Root (with_aliases ms t) ≡ inner_places al done places.Root (with_aliases ns t)
-    unfolding place_flaws names_alias names_member_type lists_extra_members
-    alike_aliases t = on_way (λ s f g. (v : Data) → parts al done s (f v) ≡ parts al done s (g v)) ms ns alike_object (λ s n f g above each. alike_under s n f g above each) t
+    alike_aliases : (t : Data) → whole_flaws al done (with_aliases ms t) ≡ whole_flaws al done (with_aliases ns t)
+    alike_aliases t =
+        on_way (λ s f g. (v : Data) → value_flaws (known_in al) (Some done) true s false no_members (f v) ≡ value_flaws (known_in al) (Some done) true s false no_members (g v)) ms ns alike_object (λ s n f g above on each. alike_under s n f g above on each) t
 
-  -- those of a configuration without its aliases are those with them
-  pub places_without : (ms : Members) (v : Data) → with_aliases no_members v ≡ v → member_places al done places.FieldTypeAliases ms ≡ [] → inner_places al done places.Root v ≡ inner_places al done places.Root (with_aliases ms v)
-  places_without ms v bare sound = ap (inner_places al done places.Root) (sym bare) ∙ alike_aliases no_members ms (sym sound) v
+  -- the flaws of a configuration without its aliases are those with them
+  pub flaws_without : (ms : Members) (v : Data) → with_aliases no_members v ≡ v → member_flaws (known_in al) (Some done) true places.FieldTypeAliases no_members ms ≡ [] → whole_flaws al done v ≡ whole_flaws al done (with_aliases ms v)
+  flaws_without ms v bare sound = ap (whole_flaws al done) (sym bare) ∙ alike_aliases no_members ms (sym sound) v
 
 -- ---- what is laid
 
@@ -243,26 +264,25 @@ module _ (al now : Members) (n : ℕ) (st : Outcomes) (v : Data) (bare : with_al
   abbrev pub then_laid : ⊤ → Result Data Flaw
   then_laid a = if_shallow (lay st.done places.Root whole None)
 
-  abbrev then_places : ⊤ → Result Data Flaw
-  then_places a = refusal (inner_places al st.done places.Root whole) >>= then_laid
+  abbrev then_whole : ⊤ → Result Data Flaw
+  then_whole a = refusal (whole_flaws al st.done whole) >>= then_laid
 
   alias_fault : from_aliases (refusal (all_alias_flaws al st al)) ≡ from_aliases (refusal (all_alias_flaws now st now))
   alias_fault = ap (λ fs. from_aliases (refusal fs)) (sym (same_alias_flaws al now st spent))
 
   -- the fault of an alias
   pub refused_alias : (flaw : Flaw) → from_aliases (refusal (all_alias_flaws now st now)) ≡ Err flaw → resolution_after al st whole ≡ Err flaw
-  refused_alias flaw e = ap (λ a. a >>= then_places) (alias_fault ∙ e)
+  refused_alias flaw e = ap (λ a. a >>= then_whole) (alias_fault ∙ e)
 
   module _ (sound : from_aliases (refusal (all_alias_flaws now st now)) ≡ Ok tt) where
-    place_fault : refusal (inner_places al st.done places.Root whole) ≡ refusal (parts now st.done places.Root v)
-    unfolding place_flaws names_alias names_member_type lists_extra_members
-    place_fault =
+    whole_fault : refusal (whole_flaws al st.done whole) ≡ refusal (whole_flaws now st.done v)
+    whole_fault =
         let none = whole_sound al n st apart settled (alias_fault ∙ sound) in
-        ap refusal (sym (same_places al now (same_names st.done al now spent) st.done places.Root v ∙ places_without al st.done al v bare none))
+        ap refusal (sym (same_flaws al now (same_names st.done al now spent) (Some st.done) true places.Root false no_members v ∙ flaws_without al st.done al v bare none))
 
-    -- what is found at the places decides
-    pub after_places : resolution_after al st whole ≡ (refusal (parts now st.done places.Root v) >>= then_laid)
-    after_places = ap (λ a. a >>= then_places) (alias_fault ∙ sound) ∙ ap (λ a. a >>= then_laid) place_fault
+    -- what is found in the whole decides
+    pub after_aliases : resolution_after al st whole ≡ (refusal (whole_flaws now st.done v) >>= then_laid)
+    after_aliases = ap (λ a. a >>= then_whole) (alias_fault ∙ sound) ∙ ap (λ a. a >>= then_laid) whole_fault
 
     pub aliases_laid : AreLaid st.done al
     aliases_laid = whole_laid al n st apart settled (alias_fault ∙ sound)
@@ -286,12 +306,6 @@ unfolding leads_on names_alias names_member_type
 text_stays done places.FieldType n h = absurd (true≢false (sym h))
 text_stays done places.Member n h = absurd (true≢false (sym h))
 text_stays done _ n h = refl
-
-no_list : (s : Place) → leads_on s ≡ true → lists_members s ≡ false
-unfolding leads_on lists_members
-no_list places.Members h = absurd (true≢false (sym h))
-no_list places.ExtraMembers h = absurd (true≢false (sym h))
-no_list _ h = refl
 
 module _ (done : Members) (s : Place) (above : leads_on s ≡ true) where
   module _ (n : List ℕ) (f g : Data → Data) (each : (d : Data) → lay done (place_under s n) (f d) None ≡ g (lay done (place_under s n) d None)) where
@@ -318,7 +332,7 @@ module _ (done : Members) (s : Place) (above : leads_on s ≡ true) where
 whole_with : (done al : Members) (v : Data) → lay done places.Root (with_aliases al v) None ≡ with_aliases (lay_members done places.FieldTypeAliases al no_members) (lay done places.Root v None)
 unfolding leads_on
 whole_with done al v = on_way (λ s f g. (d : Data) → lay done s (f d) None ≡ g (lay done s d None)) al (lay_members done places.FieldTypeAliases al no_members)
-    (object_with done places.FieldTypeAliases refl al) (λ s n f g above each. value_with done s above n f g each) v
+    (object_with done places.FieldTypeAliases refl al) (λ s n f g above on each. value_with done s above n f g each) v
 
 -- the resolved ones in their place
 laid_with : (done al : Members) (v : Data) → AreLaid done al → lay done places.Root (with_aliases al v) None ≡ with_aliases done (lay done places.Root v None)

@@ -2,10 +2,12 @@
 use Rattle.std.proofs.Common.{arith, inr, inl, ◌≡◌, ◌&&◌, ℕ, Bool, true, false, cond, List, [], ◌∷◌, Option, Some, None, option_map, refl, bytes_eq, ◌||◌, true≢false, if◌then◌else◌, sym, ap, ◌∙◌}
 use Rattle.std.proofs.{lemmas.Bool.{and_parts, cases_Bool}, lemmas.Slice.Eq.bytes_eq-Decides}
 use Rattle.std.specs.Prelude.{codes}
+use Rattle.serde_json.specs.Data.{Data, array}
 use Rattle.conf_table.specs.{declared.place.Place.Place, declared.row.Entries.Entries}
 use Rattle.conf_table.specs.Table.{Told, rows_of, entries_of, row_in, content_under, told_under, under_entries, place_in}
 use Rattle.conf_table.specs.declared.place.Place.TheVariants as places
-use Rattle.conf_inherit.specs.FieldPlaces.{inherit_name, field_type_name, field_place, field_place_or_none, place_in_type, place_under, leads_on, names_alias, names_member_type, lists_members}
+use Rattle.conf_inherit.specs.FieldPlaces.{inherit_name, field_type_name, field_place, field_place_or_none, place_in_type, place_under, place_of_items, names_alias, names_member_type, lists_members, lists_extra_members, is_entry}
+use Rattle.conf_inherit.specs.Flaws.{is_crowded}
 
 module _ (f : List ℕ → Place → Bool) (k : List ℕ) where
   abbrev true_along : List Told → Bool
@@ -53,6 +55,48 @@ module _ (f : List ℕ → Place → Bool) (k : List ℕ) where
   under_place places.Member h = of_type h
   under_place places.Ignored h = h
   under_place s h = of_told (entries_of s) (rows_of s) h
+
+-- ---- where extra members stand
+
+-- no way from the place leads to a list of extra members
+abbrev pub leads_elsewhere : Place → Bool
+leads_elsewhere places.Root = false
+leads_elsewhere places.Trace = false
+leads_elsewhere places.TraceType = false
+leads_elsewhere places.StreamTypes = false
+leads_elsewhere places.StreamType = false
+leads_elsewhere places.ExtraMembers = false
+leads_elsewhere _ = true
+
+abbrev pub LeadsElsewhere : Place → Type 0
+LeadsElsewhere s = leads_elsewhere s ≡ true
+
+pub under_elsewhere : (s : Place) (k : List ℕ) → LeadsElsewhere s → LeadsElsewhere (place_under s k)
+unfolding true_under entries_of rows_of place_in field_place
+under_elsewhere s k h = under_place (λ n. leads_elsewhere) k s (at s h)
+  where
+    at : (s : Place) → LeadsElsewhere s → true_under (λ n. leads_elsewhere) k s ≡ true
+    at places.Root h = absurd (true≢false (sym h))
+    at places.Trace h = absurd (true≢false (sym h))
+    at places.TraceType h = absurd (true≢false (sym h))
+    at places.StreamTypes h = absurd (true≢false (sym h))
+    at places.StreamType h = absurd (true≢false (sym h))
+    at _ h = refl
+
+pub items_elsewhere : (s : Place) → LeadsElsewhere (place_of_items s)
+unfolding place_of_items
+items_elsewhere places.Members = refl
+items_elsewhere places.ExtraMembers = refl
+items_elsewhere _ = refl
+
+no_extras : (s : Place) → LeadsElsewhere s → lists_extra_members s ≡ false
+unfolding lists_extra_members
+no_extras places.ExtraMembers h = absurd (true≢false (sym h))
+no_extras _ h = refl
+
+pub not_crowded : (s : Place) (v : Data) → LeadsElsewhere s → is_crowded s v ≡ false
+not_crowded s (array es) h = rw (no_extras s h) refl
+not_crowded s _ h = refl
 
 -- ---- worked rows of where each name leads: those names of the table that lead to field types, and nothing else does
 
@@ -112,13 +156,29 @@ module _ (s : Place) (k : List ℕ) where
   by_rows : AreLed s (rows s) → true_under (λ n t. is_ignored t || is_named n (rows s)) k s ≡ true → place_under s k ≡ in_rows (rows s) k
   by_rows each all = along_rows (rows s) each (under_place (λ n t. is_ignored t || is_named n (rows s)) k s all)
 
+-- an object leads on to field types, and is none itself, nor an entry
+unfoldable pub leads_on : Place → Bool
+leads_on places.Root = true
+leads_on places.Trace = true
+leads_on places.TraceType = true
+leads_on places.TraceFeatures = true
+leads_on places.FieldTypeAliases = true
+leads_on places.StreamTypes = true
+leads_on places.StreamType = true
+leads_on places.StreamFeatures = true
+leads_on places.PacketFeatures = true
+leads_on places.EventRecordFeatures = true
+leads_on places.EventTypes = true
+leads_on places.EventType = true
+leads_on _ = false
+
 -- a place that inheritance knows
 abbrev is_known : Place → Bool
-is_known s = leads_on s || (names_alias s || (names_member_type s || (lists_members s || is_ignored s)))
+is_known s = leads_on s || (is_entry s || (names_alias s || (names_member_type s || (lists_members s || is_ignored s))))
 
 -- from each of them every name leads where the rows say
 known_led : (s : Place) (k : List ℕ) → is_known s ≡ true → place_under s k ≡ led s k
-unfolding place_under place_in_type field_type_name inherit_name content_under entries_of rows_of place_in field_place true_under leads_on names_alias names_member_type lists_members
+unfolding place_under place_in_type field_type_name inherit_name content_under entries_of rows_of place_in field_place true_under leads_on is_entry names_alias names_member_type lists_members
 known_led places.Root k h = by_rows places.Root k (refl, tt) refl
 known_led places.Trace k h = by_rows places.Trace k (refl, tt) refl
 known_led places.TraceType k h = by_rows places.TraceType k (refl, (refl, (refl, tt))) refl

@@ -4,8 +4,8 @@ use Rattle.std.specs.Prelude.{◌≡◌, ℕ, List, codes, Ok, Err, [], ◌∷�
 use Rattle.serde_json.specs.Data.{Data, number, string, array, object, unsigned, Items, no_items, item, Members, no_members, member}
 use Rattle.conf_tree.specs.{declared.fault_kind.FaultKind.TheVariants.{InheritCycle, NoSuchAlias}, Flaw.{key, index}}
 use Rattle.conf_table.specs.Table.{rows_of, entries_of, content_under, place_in}
-use Rattle.conf_inherit.specs.{AliasFlaws.alias_flaws, Flaws.{own_flaws, base_flaws}, Resolution.{Resolves, aliases_of, resolution, trace_name, type_name, aliases_name}, Names.NoClash, Places.place_flaws}
-use Rattle.conf_inherit.specs.FieldPlaces.{field_place, field_type_name, names_alias, place_under, place_in_type, inherit_name, names_member_type, place_of_items, lists_members, lists_extra_members, is_entry, is_base_name, leads_on}
+use Rattle.conf_inherit.specs.{AliasFlaws.alias_flaws, Flaws.{own_flaws, alone_flaws}, Resolution.{Resolves, aliases_of, resolution, trace_name, type_name, aliases_name}, Names.NoClash}
+use Rattle.conf_inherit.specs.FieldPlaces.{field_place, field_type_name, names_alias, place_under, place_in_type, inherit_name, names_member_type, place_of_items, lists_members, lists_extra_members, is_entry, is_base_name}
 use Rattle.conf_inherit.proofs.RoundLemmas.{resolution_sound}
 
 -- `{"class": "uint", "size": size}`
@@ -55,7 +55,7 @@ abbrev resolved_three : Data
 resolved_three = with_aliases (member (codes "A") alias_a (member (codes "B") resolved_b (member (codes "C") resolved_c no_members)))
 
 three_resolved : resolution three ≡ Ok resolved_three
-unfolding alias_flaws own_flaws base_flaws trace_name type_name aliases_name field_type_name names_alias place_under content_under entries_of rows_of place_in field_place place_in_type inherit_name names_member_type place_of_items lists_members lists_extra_members is_entry is_base_name leads_on place_flaws
+unfolding alias_flaws own_flaws alone_flaws trace_name type_name aliases_name field_type_name names_alias place_under content_under entries_of rows_of place_in field_place place_in_type inherit_name names_member_type place_of_items lists_members lists_extra_members is_entry is_base_name
 three_resolved = refl
 
 three_apart : NoClash (aliases_of three)
@@ -73,7 +73,7 @@ circle =
     (member (codes "Q") (object (member (codes "$inherit") (string (codes "P")) no_members)) no_members))
 
 circle_refused : resolution circle ≡ Err (record { path = key (codes "trace") ∷ key (codes "type") ∷ key (codes "$field-type-aliases") ∷ key (codes "P") ∷ []; kind = InheritCycle })
-unfolding alias_flaws own_flaws base_flaws trace_name type_name aliases_name field_type_name names_alias place_under content_under entries_of rows_of place_in field_place place_in_type inherit_name lists_members is_entry names_member_type is_base_name
+unfolding alias_flaws own_flaws alone_flaws trace_name type_name aliases_name field_type_name names_alias place_under content_under entries_of rows_of place_in field_place place_in_type inherit_name lists_members is_entry names_member_type is_base_name
 circle_refused = refl
 
 -- P with the members x and y, of these types
@@ -83,10 +83,10 @@ two_texts one other =
 
 -- the flaw stands before the circle
 flaw_before_circle : resolution (two_texts (codes "nope") (codes "P")) ≡ Err (record { path = key (codes "trace") ∷ key (codes "type") ∷ key (codes "$field-type-aliases") ∷ key (codes "P") ∷ key (codes "members") ∷ index 0 ∷ key (codes "x") ∷ []; kind = NoSuchAlias })
-unfolding alias_flaws own_flaws base_flaws trace_name type_name aliases_name field_type_name names_alias place_under content_under entries_of rows_of place_in field_place place_in_type inherit_name lists_members is_entry names_member_type place_of_items
+unfolding alias_flaws own_flaws alone_flaws trace_name type_name aliases_name field_type_name names_alias place_under content_under entries_of rows_of place_in field_place place_in_type inherit_name lists_members is_entry names_member_type place_of_items lists_extra_members
 flaw_before_circle = refl
 
 -- the circle stands before the flaw
 circle_before_flaw : resolution (two_texts (codes "P") (codes "nope")) ≡ Err (record { path = key (codes "trace") ∷ key (codes "type") ∷ key (codes "$field-type-aliases") ∷ key (codes "P") ∷ []; kind = InheritCycle })
-unfolding alias_flaws own_flaws base_flaws trace_name type_name aliases_name field_type_name names_alias place_under content_under entries_of rows_of place_in field_place place_in_type inherit_name lists_members is_entry names_member_type place_of_items is_base_name
+unfolding alias_flaws own_flaws alone_flaws trace_name type_name aliases_name field_type_name names_alias place_under content_under entries_of rows_of place_in field_place place_in_type inherit_name lists_members is_entry names_member_type place_of_items is_base_name lists_extra_members
 circle_before_flaw = refl

@@ -1,11 +1,11 @@
 -- What a refusal says: its kind holds at its path, over the configuration as it was given.
 use Rattle.std.specs.Prelude.{◌≡◌, ◌<◌, ◌++◌, ◌⊎◌, ℕ, List, [], ◌∷◌, Some, None, true}
-use Rattle.serde_json.specs.{Data.{Data, array, object, Items, Members}, Events.{items_len, members_len}, Find.get_item}
+use Rattle.serde_json.specs.{Data.{Data, array, object, Items, Members}, Events.members_len, Find.get_item}
 use Rattle.conf_tree.specs.{Flaw.{Flaw, Place as Step, key, index}, Walk.HasMember, declared.fault_kind.FaultKind.FaultKind}
 use Rattle.conf_tree.specs.declared.fault_kind.FaultKind.TheVariants.{WrongKind, NoSuchAlias, InheritCycle, NameClash, Limit}
 use Rattle.conf_table.specs.declared.place.Place.{Place}
-use Rattle.conf_inherit.specs.{FieldPlaces.{place_under, place_of_items, lists_members, lists_extra_members}, Circle.Walks, Flaws.{is_wrong, is_unknown}}
-use Rattle.conf_inherit.specs.{Looks.AreResolved, Places.max_extra_members, Nesting.PassesDepth, Resolution.{aliases_of, Resolves}, Laying.lay}
+use Rattle.conf_inherit.specs.{FieldPlaces.{place_under, place_of_items, lists_members}, Circle.Walks, Flaws.{is_wrong, known_in, name_fault, is_crowded}}
+use Rattle.conf_inherit.specs.{Looks.AreResolved, Nesting.PassesDepth, Resolution.{aliases_of, Resolves}, Laying.lay}
 use Rattle.conf_inherit.specs.{Limits.Exceeds, Named.{Names, all_named, has}}
 use Rattle.conf_table.specs.declared.place.Place.TheVariants as places
 
@@ -33,15 +33,11 @@ Circles al s v path = (front : List Step) × (k : List ℕ)
 abbrev pub Passes : Members → FaultKind → Place → Data → Type 0
 Passes al kind t w = Names t × ((done : Members) × AreResolved al done × (all_named (has done) t w ≡ true) × Exceeds kind (lay done t w None))
 
--- a packet context has too many extra members
-abbrev pub ListsTooMany : Place → Data → Type 0
-ListsTooMany t w = (es : Items) × (w ≡ array es) × (lists_extra_members t ≡ true) × (max_extra_members < items_len es)
-
 -- what a kind tells of the value w that a path leads to
 abbrev pub Tells : Members → FaultKind → Place → Data → Type 0
 Tells al WrongKind t w = is_wrong t w ≡ true
-Tells al NoSuchAlias t w = is_unknown al t w ≡ true
-Tells al Limit t w = ListsTooMany t w
+Tells al NoSuchAlias t w = name_fault (known_in al) t w ≡ Some NoSuchAlias
+Tells al Limit t w = is_crowded t w ≡ true
 Tells al _ t w = ⊥
 
 abbrev pub SaysOf : Members → FaultKind → Place → Data → Type 0

@@ -1,7 +1,7 @@
 -- Where the field types of a configuration stand: where the table has one at whatever position, which inheritance
 -- takes for the place `FieldType`. There and at a `Member` a text is the name of an alias, and in an object `members`,
 -- `field-type`, `element-field-type` and `$inherit` lead on, whatever its class.
-use Rattle.std.specs.{Prelude.{ℕ, List, Option, None, Some, Bool, true, false, codes, if◌then◌else◌}, Str.bytes_eq}
+use Rattle.std.specs.{Prelude.{ℕ, List, Option, None, Some, Bool, true, false, ◌||◌, codes, if◌then◌else◌}, Str.bytes_eq}
 use Rattle.conf_table.specs.{declared.place.Place.Place, Table.under_of}
 use Rattle.conf_table.specs.declared.place.Place.TheVariants as places
 
@@ -68,6 +68,10 @@ unfoldable pub names_member_type : Place → Bool
 names_member_type places.Member = true
 names_member_type _ = false
 
+-- a text is the name of an alias in either way
+abbrev pub names_type : Place → Bool
+names_type s = names_alias s || names_member_type s
+
 -- the value of this name in an object is what the object inherits from
 unfoldable pub is_base_name : Place → List ℕ → Bool
 is_base_name places.FieldType k = bytes_eq k inherit_name
@@ -89,20 +93,3 @@ lists_extra_members _ = false
 unfoldable pub is_entry : Place → Bool
 is_entry places.Entry = true
 is_entry _ = false
-
--- an object leads on to field types, and is none itself
-unfoldable pub leads_on : Place → Bool
-leads_on places.Root = true
-leads_on places.Trace = true
-leads_on places.TraceType = true
-leads_on places.TraceFeatures = true
-leads_on places.FieldTypeAliases = true
-leads_on places.StreamTypes = true
-leads_on places.StreamType = true
-leads_on places.StreamFeatures = true
-leads_on places.PacketFeatures = true
-leads_on places.EventRecordFeatures = true
-leads_on places.EventTypes = true
-leads_on places.EventType = true
-leads_on places.Entry = true
-leads_on _ = false

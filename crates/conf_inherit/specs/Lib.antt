@@ -12,9 +12,7 @@ pub mod SeenNames
 pub mod Rounds
 pub mod Spent
 pub mod Circle
-pub mod SameFlaw
 pub mod AliasFlaws
-pub mod Places
 pub mod AliasOutcomes
 pub mod Asked
 pub mod Resolution

@@ -1,13 +1,13 @@
 -- The names of aliases in a value.
-use Rattle.std.specs.Prelude.{◌≡◌, ◌⊎◌, ◌&&◌, ◌||◌, ℕ, List, Bool, true, not, is_some}
+use Rattle.std.specs.Prelude.{◌≡◌, ◌&&◌, ◌||◌, ℕ, List, Bool, true, not, is_some}
 use Rattle.serde_json.specs.{Data.{Data, string, array, object, Items, no_items, item, Members, no_members, member}, Find.get_member}
 use Rattle.conf_table.specs.declared.place.Place.{Place}
-use Rattle.conf_inherit.specs.FieldPlaces.{place_under, place_of_items, names_alias, names_member_type}
+use Rattle.conf_inherit.specs.FieldPlaces.{place_under, place_of_items, names_type}
 
 abbrev mutual
   -- every text of a value that names an alias passes the test
   pub all_named : (List ℕ → Bool) → Place → Data → Bool
-  all_named p s (string n) = not (names_alias s || names_member_type s) || p n
+  all_named p s (string n) = not (names_type s) || p n
   all_named p s (array ds) = all_named_in_items p (place_of_items s) ds
   all_named p s (object ms) = all_named_in_members p s ms
   all_named p s _ = true
@@ -22,7 +22,7 @@ abbrev mutual
 
 -- a text at this place names an alias
 abbrev pub Names : Place → Type 0
-Names s = (names_alias s ≡ true) ⊎ (names_member_type s ≡ true)
+Names s = names_type s ≡ true
 
 -- one of the members has the name
 abbrev pub has : Members → List ℕ → Bool

@@ -3,7 +3,7 @@
 use Rattle.std.specs.Prelude.{ℕ, List, [], ◌∷◌, Option, None, Some, option_and_then, codes, Result, Ok, Err, ⊤}
 use Rattle.serde_json.specs.{Data.{Data, object, Members, no_members}, Find.get, Events.members_len}
 use Rattle.conf_tree.specs.{Flaw.{Flaw, key, within}, Reading.◌>>=◌, Walk.refusal}
-use Rattle.conf_inherit.specs.{AliasFlaws.all_alias_flaws, Laying.lay, Nesting.deep_flaws, Places.inner_places, Rounds.{Outcomes, rounds, no_outcomes}}
+use Rattle.conf_inherit.specs.{AliasFlaws.all_alias_flaws, Laying.lay, Nesting.deep_flaws, Flaws.whole_flaws, Rounds.{Outcomes, rounds, no_outcomes}}
 use Rattle.conf_inherit.specs.Looks.{Looks}
 use Rattle.conf_table.specs.declared.place.Place.TheVariants as places
 
@@ -42,10 +42,10 @@ from_aliases (Err flaw) = Err (in_aliases flaw)
 abbrev pub if_shallow : Data → Result Data Flaw
 if_shallow r = refusal (deep_flaws r 32) >>= (λ a. Ok r)
 
--- beside the aliases and the places no value has a meaning, so nothing else is judged but the levels of the whole
+-- the aliases are judged before the whole, and the levels of what it is laid to behind it
 abbrev pub resolution_after : Members → Outcomes → Data → Result Data Flaw
 resolution_after al st t =
-    from_aliases (refusal (all_alias_flaws al st al)) >>= (λ a. refusal (inner_places al st.done places.Root t) >>= (λ b. if_shallow (lay st.done places.Root t None)))
+    from_aliases (refusal (all_alias_flaws al st al)) >>= (λ a. refusal (whole_flaws al st.done t) >>= (λ b. if_shallow (lay st.done places.Root t None)))
 
 abbrev pub resolution_under : Members → Data → Result Data Flaw
 resolution_under al t = resolution_after al (rounds al (members_len al) no_outcomes) t

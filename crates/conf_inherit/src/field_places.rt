@@ -1,6 +1,6 @@
 //! Where a value stands in a configuration, as far as inheritance goes: which names and texts have a meaning there.
 ghost use Rattle.std.specs.Prelude.{◌≡◌};
-ghost use Rattle.conf_inherit.specs.FieldPlaces.{field_place, place_in_type, place_under, place_of_items, names_alias, names_member_type, is_base_name, lists_members, lists_extra_members, is_entry, leads_on};
+ghost use Rattle.conf_inherit.specs.FieldPlaces.{field_place, place_in_type, place_under, place_of_items, names_alias, names_member_type, names_type, is_base_name, lists_members, lists_extra_members, is_entry};
 
 use conf_table::{Place, under};
 
@@ -81,6 +81,13 @@ pub(crate) fn names_member_type(place: Place) -> bool
     matches!(place, Place::Member)
 }
 
+/// Whether a text that stands here is the name of an alias in either way.
+pub(crate) fn names_type(place: Place) -> bool
+    ensures { result ≡ names_type place }
+{
+    names_alias(place) || names_member_type(place)
+}
+
 /// Whether a list that stands here is a members list.
 #[tactic(auto, unfolding(crate::specs::FieldPlaces::lists_members))]
 pub(crate) fn lists_members(place: Place) -> bool
@@ -103,29 +110,6 @@ pub(crate) fn is_entry(place: Place) -> bool
     ensures { result ≡ is_entry place }
 {
     matches!(place, Place::Entry)
-}
-
-/// Whether an object that stands here leads on to field types, and is none itself.
-#[tactic(auto, unfolding(crate::specs::FieldPlaces::leads_on))]
-pub(crate) fn leads_on(place: Place) -> bool
-    ensures { result ≡ leads_on place }
-{
-    matches!(
-        place,
-        Place::Root
-            | Place::Trace
-            | Place::TraceType
-            | Place::TraceFeatures
-            | Place::FieldTypeAliases
-            | Place::StreamTypes
-            | Place::StreamType
-            | Place::StreamFeatures
-            | Place::PacketFeatures
-            | Place::EventRecordFeatures
-            | Place::EventTypes
-            | Place::EventType
-            | Place::Entry
-    )
 }
 
 /// Whether the property `name` of an object that stands here is what the object inherits from.

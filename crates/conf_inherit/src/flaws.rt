@@ -1,22 +1,24 @@
 //! The first flaw of a value, in walk order.
 ghost use Rattle.std.specs.Prelude.{◌≡◌, ◌+◌, ◌&&◌, ◌++◌, Some, false, OnOk, is_some};
 ghost use Rattle.serde_json.specs.{Data.no_members, Find.get_member, View.{view, items_view, members_view}};
-ghost use Rattle.conf_inherit.specs.{SeenNames.seen_names, FieldPlaces.{place_under, is_entry}};
-ghost use Rattle.conf_inherit.specs.Flaws.{is_wrong, is_no_entry, is_unknown, own_flaws, base_flaws, flaws, type_flaws, item_flaws, member_flaws, mark};
+ghost use Rattle.conf_inherit.specs.{Asked.asked_of, SeenNames.seen_names, FieldPlaces.{place_under, is_entry}, Limits.limit_flaws};
+ghost use Rattle.conf_inherit.specs.Flaws.{is_wrong, is_no_entry, name_fault, is_crowded, own_flaws, alone_flaws, is_outside, value_flaws, item_flaws, member_flaws, mark};
 ghost use Rattle.conf_tree.specs.{Reading.Gives, Walk.refusal};
 
 use crate::field_places::{
-    is_base_name, is_entry, lists_members, names_alias, names_member_type, place_of_items,
-    place_under,
+    is_base_name, is_entry, lists_extra_members, lists_members, names_member_type, names_type,
+    place_of_items, place_under,
 };
 use crate::limits::check_limits;
 use crate::outcomes::Known;
-use crate::property::property;
 use conf_table::Place;
 use conf_tree::{ConfFault, FaultKind};
 use serde_json::{Map, Value};
 use std::alloc::AllocError;
 use std::collections::BTreeMap;
+
+/// The most extra members of a packet context.
+const MAX_EXTRA_MEMBERS: usize = 256;
 
 /// Whether a value is of another kind than its place asks for.
 fn is_wrong(value: &Value, place: Place) -> bool
@@ -37,41 +39,50 @@ fn is_no_entry(value: &Value) -> bool
     }
 }
 
-/// Whether a value is a text that names no alias, where it has to.
-fn is_unknown(value: &Value, place: Place, aliases: &Map<String, Value>) -> bool
-    ensures { result ≡ is_unknown (members_view aliases.now.entries) place (view value.now) }
+/// What is wrong with a text that has to be the name of a type.
+fn name_fault(known: Known, value: &Value, place: Place) -> Option<FaultKind>
+    ensures { result ≡ name_fault (asked_of known.entry) place (view value.now) }
 {
-    let Value::String(name) = value else {
+    match value {
+        Value::String(name) if names_type(place) => known.fault_of(name.as_str()),
+        _ => None,
+    }
+}
+
+/// Whether a value lists more extra members than a packet context may have.
+#[tactic(auto, using(crate::proofs::FaultLemmas::counted))]
+fn is_crowded(value: &Value, place: Place) -> bool
+    ensures { result ≡ is_crowded place (view value.now) }
+{
+    let Value::Array(items) = value else {
         return false;
     };
-    (names_alias(place) || names_member_type(place)) && property(aliases, name.as_str()).is_none()
+    lists_extra_members(place) && items.len() > MAX_EXTRA_MEMBERS
 }
 
 /// Refuses the first flaw of a value itself, where its name may be taken.
 #[tactic(auto, unfolding(crate::specs::Flaws::own_flaws))]
-pub(crate) fn check_itself(
-    known: Known,
-    value: &Value,
-    place: Place,
-    taken: bool,
-) -> Result<(), ConfFault>
-    ensures first { Gives (λ _. tt) result (refusal (own_flaws (members_view known.entry.aliases.now.entries) place taken (view value.now))) }
+fn check_itself(known: Known, value: &Value, place: Place, taken: bool) -> Result<(), ConfFault>
+    ensures first { Gives (λ _. tt) result (refusal (own_flaws (asked_of known.entry) place taken (view value.now))) }
 {
     if is_wrong(value, place) {
         return Err(ConfFault::here(known.alloc, FaultKind::WrongKind));
     }
-    if is_unknown(value, place, known.aliases) {
-        return Err(ConfFault::here(known.alloc, FaultKind::NoSuchAlias));
+    if let Some(kind) = name_fault(known, value, place) {
+        return Err(ConfFault::here(known.alloc, kind));
     }
     if taken {
         return Err(ConfFault::here(known.alloc, FaultKind::NameClash));
+    }
+    if is_crowded(value, place) {
+        return Err(ConfFault::here(known.alloc, FaultKind::Limit));
     }
     Ok(())
 }
 
 /// Adds the name of an entry to those of the entries so far.
 #[tactic(auto, using(crate::proofs::FaultLemmas::noted))]
-pub(crate) fn mark<'a>(entry: &'a Value, seen: &mut BTreeMap<&'a str, ()>) -> Result<(), AllocError>
+fn mark<'a>(entry: &'a Value, seen: &mut BTreeMap<&'a str, ()>) -> Result<(), AllocError>
     ensures { OnOk result (seen_names seen.new ≡ mark (view entry.now) (seen_names seen.old)) }
 {
     let Value::Object(members) = entry else {
@@ -83,22 +94,23 @@ pub(crate) fn mark<'a>(entry: &'a Value, seen: &mut BTreeMap<&'a str, ()>) -> Re
     Ok(())
 }
 
-/// Refuses the first flaw of a value and all that is in it, the limits that the values of `$inherit` pass among them.
-/// `seen` has the names of the entries before it.
+/// Refuses the first flaw of a value and all that is in it, the limits of the field types that are no part of another
+/// among them. `seen` has the names of the entries before it.
 #[cycle(flaws)]
-#[tactic(auto, using(crate::proofs::FaultLemmas::refused_first, crate::proofs::FaultLemmas::refused_later))]
-pub(crate) fn check_flaws(
+#[tactic(auto, using(crate::proofs::FaultLemmas::refused_first, crate::proofs::FaultLemmas::refused_later, crate::proofs::SoundPlaces::ignored_inner))]
+fn check_flaws(
     known: Known,
     value: &Value,
     place: Place,
     taken: bool,
     seen: &BTreeMap<&str, ()>,
 ) -> Result<(), ConfFault>
-    ensures first { Gives (λ _. tt) result (refusal (flaws (members_view known.entry.aliases.now.entries) (Some (members_view known.entry.resolved.now.entries)) place taken (seen_names seen.now) (view value.now))) }
+    ensures first { Gives (λ _. tt) result (refusal (value_flaws (asked_of known.entry) (Some (members_view known.entry.resolved.now.entries)) known.entry.outside place taken (seen_names seen.now) (view value.now))) }
 {
     check_itself(known, value, place, taken)?;
     match value {
         Value::Null | Value::Bool(_) | Value::Number(_) | Value::String(_) => Ok(()),
+        _ if matches!(place, Place::Ignored) => Ok(()),
         Value::Array(items) => check_items(known, items, place),
         Value::Object(members) => check_members(known, members, place, seen),
     }
@@ -106,7 +118,7 @@ pub(crate) fn check_flaws(
 
 #[cycle(flaws)]
 fn check_items(known: Known, items: &Vec<Value>, place: Place) -> Result<(), ConfFault>
-    ensures first { Gives (λ _. tt) result (refusal (item_flaws (members_view known.entry.aliases.now.entries) (Some (members_view known.entry.resolved.now.entries)) place 0 no_members (items_view items.now.items))) }
+    ensures first { Gives (λ _. tt) result (refusal (item_flaws (asked_of known.entry) (Some (members_view known.entry.resolved.now.entries)) known.entry.outside place 0 no_members (items_view items.now.items))) }
 {
     let mut seen = BTreeMap::new(known.alloc);
     for (index, item) in items.iter().enumerate() {
@@ -125,7 +137,7 @@ fn check_members(
     place: Place,
     seen: &BTreeMap<&str, ()>,
 ) -> Result<(), ConfFault>
-    ensures first { Gives (λ _. tt) result (refusal (member_flaws (members_view known.entry.aliases.now.entries) (Some (members_view known.entry.resolved.now.entries)) place (seen_names seen.now) (members_view members.now.entries))) }
+    ensures first { Gives (λ _. tt) result (refusal (member_flaws (asked_of known.entry) (Some (members_view known.entry.resolved.now.entries)) known.entry.outside place (seen_names seen.now) (members_view members.now.entries))) }
 {
     for (name, member) in members.iter() {
         if let Err(fault) = check_member(known, name.as_str(), member, place, seen) {
@@ -135,10 +147,10 @@ fn check_members(
     Ok(())
 }
 
-/// Refuses the first flaw of a property's value and all that is in it, and then the limit that it passes, if the
-/// object inherits from it.
+/// Refuses the first flaw of a property's value and all that is in it, and then the limit that it passes, if it is a
+/// field type that is no part of another.
 #[cycle(flaws)]
-#[tactic(auto, using(crate::proofs::FaultLemmas::refused_first, crate::proofs::FaultLemmas::refused_later), unfolding(crate::specs::Flaws::base_flaws))]
+#[tactic(auto, using(crate::proofs::FaultLemmas::refused_first, crate::proofs::FaultLemmas::refused_later), unfolding(crate::specs::Flaws::alone_flaws))]
 fn check_member(
     known: Known,
     name: &str,
@@ -146,14 +158,18 @@ fn check_member(
     place: Place,
     seen: &BTreeMap<&str, ()>,
 ) -> Result<(), ConfFault>
-    ensures first { Gives (λ _. tt) result (refusal (flaws (members_view known.entry.aliases.now.entries) (Some (members_view known.entry.resolved.now.entries)) (place_under place name.now) (is_entry place && is_some (get_member name.now (seen_names seen.now))) no_members (view member.now) ++ base_flaws (Some (members_view known.entry.resolved.now.entries)) place name.now (view member.now))) }
+    ensures first { Gives (λ _. tt) result (refusal (value_flaws (asked_of known.entry) (Some (members_view known.entry.resolved.now.entries)) (is_outside known.entry.outside (place_under place name.now)) (place_under place name.now) (is_entry place && is_some (get_member name.now (seen_names seen.now))) no_members (view member.now) ++ alone_flaws (Some (members_view known.entry.resolved.now.entries)) known.entry.outside place name.now (view member.now))) }
 {
     let taken = is_taken(name, place, seen);
     let nothing = BTreeMap::new(known.alloc);
     let inner = place_under(place, name);
-    check_flaws(known, member, inner, taken, &nothing)?;
-    if is_base_name(place, name) {
-        return check_limits(known.alloc, member, Place::FieldType, known.resolved);
+    let within = Known {
+        outside: known.outside && !names_type(inner),
+        ..known
+    };
+    check_flaws(within, member, inner, taken, &nothing)?;
+    if is_base_name(place, name) || (known.outside && names_type(inner)) {
+        return check_limits(known.alloc, member, inner, known.resolved);
     }
     Ok(())
 }
@@ -167,7 +183,7 @@ fn is_taken(name: &str, place: Place, seen: &BTreeMap<&str, ()>) -> bool
 
 /// Refuses the first flaw of a value as a whole.
 pub(crate) fn check_value(known: Known, value: &Value, place: Place) -> Result<(), ConfFault>
-    ensures first { Gives (λ _. tt) result (refusal (flaws (members_view known.entry.aliases.now.entries) (Some (members_view known.entry.resolved.now.entries)) place false no_members (view value.now))) }
+    ensures first { Gives (λ _. tt) result (refusal (value_flaws (asked_of known.entry) (Some (members_view known.entry.resolved.now.entries)) known.entry.outside place false no_members (view value.now))) }
 {
     let nothing = BTreeMap::new(known.alloc);
     check_flaws(known, value, place, false, &nothing)
@@ -176,7 +192,7 @@ pub(crate) fn check_value(known: Known, value: &Value, place: Place) -> Result<(
 /// Refuses the first flaw of a field type, or else the limit that it passes.
 #[tactic(auto, using(crate::proofs::FaultLemmas::refused_later))]
 pub(crate) fn check_type(known: Known, value: &Value, place: Place) -> Result<(), ConfFault>
-    ensures first { Gives (λ _. tt) result (refusal (type_flaws (members_view known.entry.aliases.now.entries) (members_view known.entry.resolved.now.entries) place (view value.now))) }
+    ensures first { Gives (λ _. tt) result (refusal (value_flaws (asked_of known.entry) (Some (members_view known.entry.resolved.now.entries)) known.entry.outside place false no_members (view value.now) ++ limit_flaws (members_view known.entry.resolved.now.entries) place (view value.now))) }
 {
     check_value(known, value, place)?;
     check_limits(known.alloc, value, place, known.resolved)

@@ -11,7 +11,6 @@ mod limits;
 mod named;
 mod nesting;
 mod outcomes;
-mod places;
 mod property;
 mod resolution;
 mod rounds;

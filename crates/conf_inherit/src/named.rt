@@ -3,7 +3,7 @@ ghost use Rattle.std.specs.Prelude.{◌≡◌};
 ghost use Rattle.serde_json.specs.View.{view, items_view, members_view};
 ghost use Rattle.conf_inherit.specs.{Asked.passes, Named.{all_named, all_named_in_items, all_named_in_members}};
 
-use crate::field_places::{names_alias, names_member_type, place_of_items, place_under};
+use crate::field_places::{names_type, place_of_items, place_under};
 use crate::outcomes::AliasOutcomes;
 use crate::property::has;
 use conf_table::Place;
@@ -43,9 +43,7 @@ pub(crate) fn all_named(value: &Value, place: Place, asked: Asked) -> bool
 {
     match value {
         Value::Null | Value::Bool(_) | Value::Number(_) => true,
-        Value::String(name) => {
-            !(names_alias(place) || names_member_type(place)) || asked.passes(name.as_str())
-        }
+        Value::String(name) => { !names_type(place) || asked.passes(name.as_str()) }
         Value::Array(items) => all_named_in_items(items, place_of_items(place), asked),
         Value::Object(members) => all_named_in_members(members, place, asked),
     }
@@ -85,8 +83,7 @@ pub(crate) fn push_failing(
     names: &mut Vec<String>,
 ) -> Result<(), AllocError> {
     match value {
-        Value::String(name)
-            if (names_alias(place) || names_member_type(place)) && !asked.passes(name.as_str()) => {
+        Value::String(name) if names_type(place) && !asked.passes(name.as_str()) => {
             names.push(name.clone()?)?;
             Ok(())
         }

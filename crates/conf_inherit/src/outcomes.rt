@@ -5,6 +5,7 @@ ghost use Rattle.conf_inherit.specs.{Nesting.members_nest, declared.nesting.TheC
 
 use crate::nesting::{ALIAS_LEVELS, nests};
 use crate::property::{has, put_property};
+use conf_tree::FaultKind;
 use serde_json::{Map, Value};
 use std::alloc::{AllocError, Global};
 
@@ -22,10 +23,32 @@ pub(crate) struct AliasOutcomes {
 
 /// The aliases that a value may name, and those of them that are resolved.
 #[derive(Clone, Copy)]
-pub(crate) struct Known<'a> {
+pub(crate) struct Known<'a, 'o> {
     pub alloc: Global,
     pub aliases: &'a Map<String, Value>,
     pub resolved: &'a Map<String, Value>,
+    /// What became of the aliases, where the name of one without an outcome is a fault.
+    pub outcomes: Option<&'o AliasOutcomes>,
+    /// Whether the value stands outside of all field types, so that the limits of those in it count.
+    pub outside: bool,
+}
+
+impl Known<'_, '_> {
+    ghost use Rattle.std.specs.Prelude.{◌≡◌};
+    ghost use Rattle.conf_inherit.specs.Asked.{asked_of};
+
+    /// What is wrong with the name of a type.
+    pub(crate) fn fault_of(self, name: &str) -> Option<FaultKind>
+        ensures { result ≡ asked_of self.entry name.now }
+    {
+        if !has(self.aliases, name) {
+            return Some(FaultKind::NoSuchAlias);
+        }
+        match self.outcomes {
+            Some(outcomes) if !outcomes.has_outcome(name) => Some(FaultKind::InheritCycle),
+            _ => None,
+        }
+    }
 }
 
 impl AliasOutcomes {

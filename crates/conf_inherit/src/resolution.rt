@@ -7,10 +7,10 @@ ghost use Rattle.conf_inherit.specs.{Names.NoClash, Resolution.{aliases_of, memb
 ghost use Rattle.serde_json.specs.{Data.{Members, no_members}, View.{view, members_view}};
 
 use crate::alias_check::check_aliases;
+use crate::flaws::check_value;
 use crate::laying::lay;
 use crate::nesting::{ALIAS_LEVELS, check_nesting};
 use crate::outcomes::{AliasOutcomes, Known};
-use crate::places::check_places;
 use crate::rounds::settle_aliases;
 use crate::size::Stop;
 use conf_table::Place;
@@ -121,8 +121,10 @@ fn resolve_after(
         alloc,
         aliases,
         resolved: &outcomes.resolved,
+        outcomes: None,
+        outside: true,
     };
-    check_places(known, value, Place::Root)?;
+    check_value(known, value, Place::Root)?;
     let AliasOutcomes {
         resolved,
         refused: _,

@@ -90,6 +90,8 @@ fn outcome(
         alloc,
         aliases,
         resolved,
+        outcomes: None,
+        outside: false,
     };
     if let Err(fault) = check_value(judged, value, Place::FieldType) {
         if fault.is_memory() {
