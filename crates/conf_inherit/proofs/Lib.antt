@@ -8,7 +8,6 @@ pub mod LimitLemmas
 pub mod RoundLemmas
 pub mod LookedUp
 pub mod PlacesFit
-pub mod SoundPlaces
 pub mod RefusalLemmas
 pub mod TurnLemmas
 pub mod SpentLemmas

@@ -9,9 +9,9 @@ use Rattle.conf_inherit.specs.{Faults.Leads, Limits.{Fits, limit_flaws}, Flaws.{
 use Rattle.conf_inherit.specs.{Laying.{lay, lay_base, lay_members, lay_new, lay_new_entry, lay_new_member, has_entry, members_below}, Named.{Names, all_named, has}}
 use Rattle.conf_inherit.specs.Looks.{AreResolved}
 use Rattle.conf_inherit.proofs.{LaysOver.{laid_entry, property_stands, ground_base, lays, grows}, LayingLemmas.{each_has, has_found, lay_members-found, found_each}}
-use Rattle.conf_inherit.proofs.FaultLemmas.{SoundAt, named, own_sound, single_entry, joined_empty}
+use Rattle.conf_inherit.proofs.FaultLemmas.{SoundAt, named, own_sound, single_entry, joined_empty, member_sound, item_sound, sound_under}
 use Rattle.conf_inherit.proofs.SizeLemmas.{NoLargerItems, unchanged, items_through, next_value, further_value, none_more, fits_below, property_fits, item_fits}
-use Rattle.conf_inherit.proofs.{LookedUp.{apart, member_in_order}, LimitLemmas.{alone_limit, limit_fits}, SoundPlaces.{member_sound, item_sound, sound_under}}
+use Rattle.conf_inherit.proofs.{LookedUp.{apart, member_in_order}, LimitLemmas.{alone_limit, limit_fits}}
 use Rattle.conf_inherit.proofs.FieldPlaceLemmas.{list_place, ignored_under}
 use Rattle.conf_table.specs.declared.place.Place.TheVariants as places
 

@@ -3,15 +3,15 @@
 use Rattle.std.proofs.Common.{◌≡◌, ◌&&◌, ◌||◌, inl, inr, ℕ, zero, suc, List, [], ◌∷◌, Option, Some, None, Result, Ok, Err, is_some, Bool, true, false, not, true≢false, refl, sym, ap, ◌∙◌, subst, ◌+◌, ◌≤◌, arith, ◌<◌, if◌then◌else◌}
 use Rattle.std.proofs.lemmas.Bool.{and_parts, cases_Bool, or_parts, or_left, or_right}
 use Rattle.std.specs.Prelude.{⊤}
-use Rattle.serde_json.specs.{Data.{Data, null, Members, no_members, member, put}, Find.get_member, Events.members_len}
+use Rattle.serde_json.specs.{Data.{Data, null, Members, no_members, member, put, depth}, Find.get_member, Events.members_len}
 use Rattle.serde_json.proofs.Views.{get_member-put_other}
 use Rattle.conf_tree.specs.{Flaw.{Flaw, key, within}, Walk.refusal, declared.fault_kind.FaultKind.FaultKind, Reading.◌>>=◌}
 use Rattle.conf_inherit.specs.{AliasFlaws.{open_in, is_circle, first_or_circle, alias_flaws, all_alias_flaws}, Flaws.{flaws, asked_flaws, type_flaws, whole_flaws}}
 use Rattle.conf_inherit.specs.{Laying.lay, Named.{all_named, has}, Circle.{Mentions, Walks}}
-use Rattle.conf_inherit.specs.{Limits.{fitting, passed, limit_flaws}, Looks.{Looks, AreResolved}, Names.NoClash, Nesting.{nests, deep_flaws}}
+use Rattle.conf_inherit.specs.{Limits.{fitting, passed, limit_flaws}, Looks.{Looks, AreResolved}, Names.NoClash, Nesting.deep_flaws}
 use Rattle.conf_inherit.specs.Rounds.{Outcomes, has_outcome, is_over, is_empty, if_fitting, outcome, concluded, step, round, all_over, rounds, no_outcomes, Reached, at_first, turned}
 use Rattle.conf_inherit.specs.Resolution.{aliases_of, Resolves, from_aliases, if_shallow, resolution_after, resolution_under, resolution}
-use Rattle.conf_inherit.proofs.{LimitLemmas.{kept_flaws, fitting_value}, SizeLemmas.shallow_nests}
+use Rattle.conf_inherit.proofs.{LimitLemmas.{kept_flaws, fitting_value}, SizeLemmas.shallow_depth}
 use Rattle.conf_inherit.proofs.LayingLemmas.{some_is_none, Meets, same, other, meets, put_found, AllEntries, entry_found, found_each, get_other}
 use Rattle.conf_inherit.proofs.{LaysOver.lays, FaultLemmas.{named, named_along, blocked, mentioned, is_still, is_put, part_empty, joined_empty, some_of}}
 use Rattle.conf_table.specs.declared.place.Place.TheVariants as places
@@ -221,11 +221,11 @@ ok_then (Err f) k r h = cc
 same_ok : (x r : Data) → (let o : Result Data Flaw = Ok x in o ≡ Ok r) → x ≡ r
 same_ok x r h = cc
 
-ok_shallow : (x r : Data) → if_shallow x ≡ Ok r → (x ≡ r) × (nests r 32 ≡ true)
+ok_shallow : (x r : Data) → if_shallow x ≡ Ok r → (x ≡ r) × (depth r ≤ 32)
 ok_shallow x r h =
     let parts = ok_then (refusal (deep_flaws x 32)) (λ a. Ok x) r h in
     let value : x ≡ r = same_ok x r parts.1 in
-    (value, ap (λ y. nests y 32) (sym value) ∙ shallow_nests x 32 (no_flaws (deep_flaws x 32) parts.0))
+    (value, subst (λ y. depth y ≤ 32) value (shallow_depth x 32 (no_flaws (deep_flaws x 32) parts.0)))
 
 -- what becomes of the aliases of a configuration
 abbrev pub rounds_of : Data → Outcomes
@@ -236,7 +236,7 @@ pub record TreeSound (t r : Data) : Type 0 where
   pub outcomes : all_alias_flaws (aliases_of t) (rounds_of t) (aliases_of t) ≡ []
   pub whole : whole_flaws (aliases_of t) (rounds_of t).done t ≡ []
   pub value : lay (rounds_of t).done places.Root t None ≡ r
-  pub shallow : nests r 32 ≡ true
+  pub shallow : depth r ≤ 32
 
 pub tree_sound : (t r : Data) → resolution t ≡ Ok r → TreeSound t r
 tree_sound t r h =
@@ -248,7 +248,7 @@ tree_sound t r h =
     record { outcomes = no_flaws (all_alias_flaws al st al) (sound_of _ first.0); whole = no_flaws (whole_flaws al st.done t) second.0; value = last.0; shallow = last.1 }
 
 -- what is answered is the resolution, and nests at most 32 deep
-pub resolution_sound : (t r : Data) → NoClash (aliases_of t) → resolution t ≡ Ok r → Resolves t r × (nests r 32 ≡ true)
+pub resolution_sound : (t r : Data) → NoClash (aliases_of t) → resolution t ≡ Ok r → Resolves t r × (depth r ≤ 32)
 resolution_sound t r apart h =
     let sound = tree_sound t r h in
     (subst (Resolves t) sound.value (laid_resolves t (aliases_of t) (members_len (aliases_of t)) (rounds_of t) refl apart refl sound.outcomes sound.whole), sound.shallow)

@@ -1,10 +1,11 @@
 -- Counting: the parts of a whole, and what a limit leaves.
-use Rattle.std.proofs.Common.{inr, inl, ◌≡◌, ◌+◌, ◌<◌, ◌≤◌, ◌++◌, ℕ, List, [], ◌∷◌, length, Option, Some, None, Bool, true, false, string_bytes, refl, sym, ap, ◌∙◌, subst, arith, ◌&&◌, zero, suc, true≢false, max, ◌↔◌}
-use Rattle.std.proofs.lemmas.{Bool.{and_from, and_parts}, Option.same_Some}
+use Rattle.std.proofs.Common.{inr, inl, ◌≡◌, ◌+◌, ◌<◌, ◌≤◌, ◌++◌, ℕ, List, [], ◌∷◌, length, Option, Some, None, Bool, true, false, string_bytes, refl, sym, ap, ◌∙◌, subst, arith, zero, suc, max, nat_lt, ◌-◌}
+use Rattle.std.proofs.lemmas.{Bool.{cases_Bool, lt-ltb, le-ltb, ltb-false}, Option.{same_Some}}
+use borrow.Author.Tests.{ltb-true}
 use Rattle.serde_json.specs.Data.{Data, array, object, Items, no_items, item, Members, no_members, member, put, depth, items_depth, members_depth}
 use Rattle.serde_json.specs.{Find.{get_member, get_item}, View.{view, items_view, members_view}, declared.value.Value.Value}
 use Rattle.serde_json.proofs.Views.{Entry}
-use Rattle.conf_inherit.specs.{declared.size.Stop.Stop, Nesting.{nests, items_nest, members_nest, deep_flaws, deep_item_flaws, deep_member_flaws, PassesDepth}}
+use Rattle.conf_inherit.specs.{declared.size.Stop.Stop, Nesting.{deep_flaws, deep_item_flaws, deep_member_flaws, PassesDepth}}
 use Rattle.conf_inherit.specs.{declared.size.Stop.TheVariants.{Memory, Limit}, Names.{NoClash, join_items, map_items, IsInOrder}}
 use Rattle.conf_inherit.specs.{FieldPlaces.{place_under, is_base_name, lists_members}, Size.{size, items_size, members_size, Within, Leaves, IsDue}}
 use Rattle.conf_inherit.specs.{Laying.{lay, items_below, lay_members, lay_over, lay_new}, Limits.Fits}
@@ -194,33 +195,29 @@ covered (member l e ns) (member k d ms) h i covers = elim (stands k l) [
       next_value d e (first_covers k l d e ms ns one covers) (covered ns ms h.1 i.1 (rest_covers k l d e ms ns one (get_none k ms h.0) covers)))
 ]
 
--- ---- what nests at most so deep
+-- ---- what nests deeper
 
-both_deep : (a b : Bool) (m n levels : ℕ) → (a ≡ true) ↔ (m ≤ levels) → (b ≡ true) ↔ (n ≤ levels) → (a && b ≡ true) ↔ (max m n ≤ levels)
-both_deep a b m n levels one rest = (
-  λ h. let parts = and_parts a b h in omega (arith, one.0 parts.0, rest.0 parts.1),
-  λ h. and_from a b (one.1 (omega (arith, h))) (rest.1 (omega (arith, h))),
-)
+pub deeper_flat : (levels : ℕ) → nat_lt levels 0 ≡ false
+deeper_flat levels = le-ltb levels 0 (omega arith)
 
-mutual
-  pub nests_deep : (d : Data) (levels : ℕ) → (nests d levels ≡ true) ↔ (depth d ≤ levels)
-  nests_deep (array ds) zero = (λ h. absurd (true≢false (sym h)), λ h. absurd (omega (arith, h)))
-  nests_deep (array ds) (suc levels) = let inner = items_deep ds levels in (λ h. omega (arith, inner.0 h), λ h. inner.1 (omega (arith, h)))
-  nests_deep (object ms) zero = (λ h. absurd (true≢false (sym h)), λ h. absurd (omega (arith, h)))
-  nests_deep (object ms) (suc levels) = let inner = members_deep ms levels in (λ h. omega (arith, inner.0 h), λ h. inner.1 (omega (arith, h)))
-  nests_deep _ levels = (λ h. omega arith, λ h. refl)
+pub deeper_inside : (levels n : ℕ) → 0 < levels → nat_lt (levels - 1) n ≡ nat_lt levels (suc n)
+deeper_inside levels n some = elim (cases_Bool (nat_lt levels (suc n))) [
+  | inl is ↦ lt-ltb (levels - 1) n (omega (arith, ltb-true levels (suc n) is)) ∙ sym is
+  | inr is ↦ le-ltb (levels - 1) n (omega (arith, ltb-false levels (suc n) is)) ∙ sym is
+]
 
-  items_deep : (ds : Items) (levels : ℕ) → (items_nest ds levels ≡ true) ↔ (items_depth ds ≤ levels)
-  items_deep no_items levels = (λ h. omega arith, λ h. refl)
-  items_deep (item d ds) levels = both_deep (nests d levels) (items_nest ds levels) (depth d) (items_depth ds) levels (nests_deep d levels) (items_deep ds levels)
+pub deeper_first : (levels m n : ℕ) → nat_lt levels m ≡ true → nat_lt levels (max m n) ≡ true
+deeper_first levels m n h = lt-ltb levels (max m n) (omega (arith, ltb-true levels m h))
 
-  members_deep : (ms : Members) (levels : ℕ) → (members_nest ms levels ≡ true) ↔ (members_depth ms ≤ levels)
-  members_deep no_members levels = (λ h. omega arith, λ h. refl)
-  members_deep (member k d ms) levels = both_deep (nests d levels) (members_nest ms levels) (depth d) (members_depth ms) levels (nests_deep d levels) (members_deep ms levels)
+pub deeper_rest : (levels m n : ℕ) → nat_lt levels m ≡ false → nat_lt levels (max m n) ≡ nat_lt levels n
+deeper_rest levels m n h = elim (cases_Bool (nat_lt levels n)) [
+  | inl is ↦ lt-ltb levels (max m n) (omega (arith, ltb-true levels n is)) ∙ sym is
+  | inr is ↦ le-ltb levels (max m n) (omega (arith, ltb-false levels m h, ltb-false levels n is)) ∙ sym is
+]
 
 -- what is no larger than what fits does fit
 pub fits_below : (d e : Data) → NoLarger d e → Fits e → Fits d
-fits_below d e h (few, flat) = (omega (arith, h.few, few), (nests_deep d 32).1 (omega (arith, h.flat, (nests_deep e 32).0 flat)))
+fits_below d e h (few, flat) = (omega (arith, h.few, few), omega (arith, h.flat, flat))
 
 -- a property of an object that fits does fit
 pub property_fits : (k : List ℕ) (e : Data) (ms : Members) → HasMember k e ms → Fits (object ms) → Fits e
@@ -233,24 +230,20 @@ item_fits e ds h fits = fits_below e (array ds) (record { few = omega (arith, h.
 -- What stands too deep in a value: nothing just where it nests at most so deep, and else what its path leads to.
 
 mutual
-  pub shallow_nests : (d : Data) (levels : ℕ) → deep_flaws d levels ≡ [] → nests d levels ≡ true
-  shallow_nests (array ds) zero h = cc
-  shallow_nests (array ds) (suc levels) h = shallow_items 0 ds levels h
-  shallow_nests (object ms) zero h = cc
-  shallow_nests (object ms) (suc levels) h = shallow_members ms levels h
-  shallow_nests _ levels h = refl
+  pub shallow_depth : (d : Data) (levels : ℕ) → deep_flaws d levels ≡ [] → depth d ≤ levels
+  shallow_depth (array ds) zero h = absurd cc
+  shallow_depth (array ds) (suc levels) h = omega (arith, shallow_items 0 ds levels h)
+  shallow_depth (object ms) zero h = absurd cc
+  shallow_depth (object ms) (suc levels) h = omega (arith, shallow_members ms levels h)
+  shallow_depth _ levels h = omega arith
 
-  shallow_items : (i : ℕ) (ds : Items) (levels : ℕ) → deep_item_flaws i ds levels ≡ [] → items_nest ds levels ≡ true
-  shallow_items i no_items levels h = refl
-  shallow_items i (item d ds) levels h = and_from (nests d levels) (items_nest ds levels)
-      (shallow_nests d levels (part_empty (within (index i)) (deep_flaws d levels) (deep_item_flaws (suc i) ds levels) h).0)
-      (shallow_items (suc i) ds levels (part_empty (within (index i)) (deep_flaws d levels) (deep_item_flaws (suc i) ds levels) h).1)
+  shallow_items : (i : ℕ) (ds : Items) (levels : ℕ) → deep_item_flaws i ds levels ≡ [] → items_depth ds ≤ levels
+  shallow_items i no_items levels h = omega arith
+  shallow_items i (item d ds) levels h = let (mine, later) = part_empty (within (index i)) (deep_flaws d levels) (deep_item_flaws (suc i) ds levels) h in omega (arith, shallow_depth d levels mine, shallow_items (suc i) ds levels later)
 
-  shallow_members : (ms : Members) (levels : ℕ) → deep_member_flaws ms levels ≡ [] → members_nest ms levels ≡ true
-  shallow_members no_members levels h = refl
-  shallow_members (member k d ms) levels h = and_from (nests d levels) (members_nest ms levels)
-      (shallow_nests d levels (part_empty (within (key k)) (deep_flaws d levels) (deep_member_flaws ms levels) h).0)
-      (shallow_members ms levels (part_empty (within (key k)) (deep_flaws d levels) (deep_member_flaws ms levels) h).1)
+  shallow_members : (ms : Members) (levels : ℕ) → deep_member_flaws ms levels ≡ [] → members_depth ms ≤ levels
+  shallow_members no_members levels h = omega arith
+  shallow_members (member k d ms) levels h = let (mine, later) = part_empty (within (key k)) (deep_flaws d levels) (deep_member_flaws ms levels) h in omega (arith, shallow_depth d levels mine, shallow_members ms levels later)
 
 -- what is too deep in a part is too deep in the whole
 in_list : (es : Items) (i : ℕ) (e : Data) (levels : ℕ) (f : Flaw) → get_item i es ≡ Some e → PassesDepth levels e f → PassesDepth (suc levels) (array es) (within (index i) f)
@@ -294,17 +287,20 @@ led_depth [] d found is nested = nested_depth d (subst IsNested is nested)
 led_depth (index i ∷ path) d found (ds, e, is, there, leads) nested = rw is (omega (arith, item_depth ds i e there, led_depth path e found leads nested))
 led_depth (key k ∷ path) d found (ms, e, is, there, leads) nested = rw is (omega (arith, (member_within k e ms there).flat, led_depth path e found leads nested))
 
-pub depth_excluded : (d : Data) (levels : ℕ) (flaw : Flaw) → nests d levels ≡ true → PassesDepth levels d flaw → ⊥
-depth_excluded d levels flaw h (kind, (found, leads, nested, steps)) = omega (arith, steps, (nests_deep d levels).0 h, led_depth flaw.path d found leads nested)
+pub depth_excluded : (d : Data) (levels : ℕ) (flaw : Flaw) → depth d ≤ levels → PassesDepth levels d flaw → ⊥
+depth_excluded d levels flaw h (kind, (found, leads, nested, steps)) = omega (arith, steps, h, led_depth flaw.path d found leads nested)
 
-pub nests_shallow : (d : Data) (levels : ℕ) → nests d levels ≡ true → deep_flaws d levels ≡ []
-nests_shallow d levels h = go (deep_flaws d levels) (deep_told d levels)
+pub depth_shallow : (d : Data) (levels : ℕ) → depth d ≤ levels → deep_flaws d levels ≡ []
+depth_shallow d levels h = go (deep_flaws d levels) (deep_told d levels)
   where
     go : (fs : List Flaw) → Each (PassesDepth levels d) fs → fs ≡ []
     go [] no_flaw = refl
     go (f ∷ fs) (a_flaw deep rest) = absurd (depth_excluded d levels f h deep)
 
 -- one more value that nests at most so deep
-pub nest_put : (k : List ℕ) (v : Data) (ms : Members) (levels : ℕ) → nests v levels ≡ true → members_nest ms levels ≡ true → members_nest (put k v ms) levels ≡ true
-nest_put k v no_members levels new h = and_from (nests v levels) true new refl
-nest_put k v (member l d ms) levels new h = grind (arith, nest_put k v ms levels new)
+pub depth_put : (k : List ℕ) (v : Data) (ms : Members) (levels : ℕ) → nat_lt levels (depth v) ≡ false → members_depth ms ≤ levels → members_depth (put k v ms) ≤ levels
+depth_put k v no_members levels new h = omega (arith, ltb-false levels (depth v) new)
+depth_put k v (member l d ms) levels new h =
+    let flat = ltb-false levels (depth v) new in
+    let rest = depth_put k v ms levels new (omega (arith, h)) in
+    elim (stands k l) [ inl is ↦ rw is (omega (arith, flat, h)) | inr (inl is) ↦ rw is (omega (arith, flat, h)) | inr (inr is) ↦ rw is (omega (arith, h, rest)) ]

@@ -1,9 +1,9 @@
 -- The aliases of a configuration: that each was resolved as it is laid, and is sound.
-use Rattle.std.proofs.Common.{arith, string_bytes, ◌≡◌, ◌++◌, ◌&&◌, ℕ, List, [], map, Option, Some, None, Result, Ok, Err, is_some, true, false, true≢false, refl, sym, ap, ◌∙◌, subst, inl, inr, if◌then◌else◌, ◌∷◌, option_and_then, ◌⊎◌, suc}
-use Rattle.std.proofs.{lemmas.Bool.{cases_Bool, or_left, or_parts}, lemmas.Slice.Eq.{bytes_eq-Decides}, lemmas.Map.Text.{is_eq-slice_cmp}}
+use Rattle.std.proofs.Common.{arith, string_bytes, ◌≡◌, ◌++◌, ◌&&◌, ℕ, List, [], map, Option, Some, None, Result, Ok, Err, is_some, true, false, true≢false, refl, sym, ap, ◌∙◌, subst, inl, inr, if◌then◌else◌, ◌∷◌, option_and_then, ◌⊎◌, suc, ◌≤◌}
+use Rattle.std.proofs.{lemmas.Bool.{cases_Bool, or_left}, lemmas.Slice.Eq.{bytes_eq-Decides}, lemmas.Map.Text.{is_eq-slice_cmp}}
 use Rattle.std.proofs.lemmas.Result.{err_from_is_err_and}
 use Rattle.std.specs.{Prelude.{⊤}, Str.{bytes_eq}, Result.{IsErrAnd}}
-use Rattle.serde_json.specs.{Data.{Data, null, object, Members, no_members, member, string, array, put}, declared.value.Value.{Value}}
+use Rattle.serde_json.specs.{Data.{Data, null, object, Members, no_members, member, string, array, put, members_depth}, declared.value.Value.{Value}}
 use Rattle.serde_json.specs.{Find.{get_member, get, as_object}, View.{view, members_view}}
 use Rattle.serde_json.proofs.Views.{Entry}
 use Rattle.conf_tree.specs.{Flaw.{Flaw, key, within, flaw_of, IsMemory}, Walk.{refusal}, Reading.{◌>>=◌, Gives}, declared.fault.ConfFault.{ConfFault}}
@@ -12,28 +12,38 @@ use Rattle.conf_table.specs.{declared.place.Place.{Place}, Table.{rows_of, entri
 use Rattle.conf_inherit.specs.{AliasFlaws.{all_alias_flaws}, Flaws.{known_in, own_flaws, alone_flaws, is_outside, inner_flaws, member_flaws, value_flaws, type_flaws, whole_flaws}, Limits.{limit_flaws}, Names.{NoClash}, Spent.{Spends}}
 use Rattle.conf_inherit.specs.Laying.{lay, lay_base, lay_members, lay_text}
 use Rattle.conf_inherit.specs.{Whole.{AreLaid, at_way, with_property, in_property, in_object, with_object, with_aliases}, Named.{has}}
-use Rattle.conf_inherit.specs.FieldPlaces.{field_place, place_under, names_alias, names_member_type, names_type, is_base_name, lists_members, is_entry}
+use Rattle.conf_inherit.specs.FieldPlaces.{field_place, place_under, names_alias, names_member_type, is_base_name, lists_members, is_entry}
 use Rattle.conf_inherit.specs.Rounds.{Outcomes, has_outcome, outcome, rounds, no_outcomes, Reached}
 use Rattle.conf_inherit.specs.Resolution.{trace_name, type_name, aliases_name, from_aliases, aliases_of, members_or_none, if_shallow, resolution_after}
-use Rattle.conf_inherit.specs.Nesting.{members_nest, deep_flaws, deep_member_flaws}
+use Rattle.conf_inherit.specs.Nesting.{deep_flaws, deep_member_flaws}
 use Rattle.conf_inherit.proofs.{FieldPlaceLemmas.{trace_place, trace_type_place, aliases_place}, WorkedPlaces.leads_on}
 use Rattle.conf_inherit.proofs.LayingLemmas.{differs, cases_Option, same_members, in_order_lay, lay_members-absent, lay_members-found, same, other, meets, get_other, get_same, AllEntries, all_along, found_each, equal_names, apart_greater}
 use Rattle.conf_inherit.proofs.LimitLemmas.{fitting_value}
 use Rattle.conf_inherit.proofs.{RoundLemmas.{no_flaws, sound_of, outcome_is, all_done, rounds_reached}, FaultLemmas.{some_of}, TurnLemmas.{reached_sound}}
-use Rattle.conf_inherit.proofs.{SpentLemmas.{written, same_names, same_alias_flaws, same_flaws}, SizeLemmas.{nests_shallow}}
+use Rattle.conf_inherit.proofs.{SpentLemmas.{written, same_names, same_alias_flaws, same_flaws}, SizeLemmas.{depth_shallow}}
 
 -- ---- an object that has the aliases in it
 
--- such an object inherits nothing
-pub no_base : (s : Place) (k : List ℕ) → leads_on s ≡ true → is_base_name s k ≡ false
-unfolding leads_on is_base_name
-no_base places.FieldType k h = absurd (true≢false (sym h))
-no_base places.Member k h = absurd (true≢false (sym h))
-no_base _ k h = refl
+-- such an object is no field type, and inherits nothing; nor is it an entry
+pub record IsAbove (s : Place) : Type 0 where
+  pub base : (k : List ℕ) → is_base_name s k ≡ false
+  pub alias : names_alias s ≡ false
+  pub member : names_member_type s ≡ false
+  pub list : lists_members s ≡ false
+  pub entry : is_entry s ≡ false
+
+is_above : (s : Place) → leads_on s ≡ true → IsAbove s
+unfolding leads_on is_base_name names_alias names_member_type lists_members is_entry
+is_above places.FieldType on = absurd (true≢false (sym on))
+is_above places.Member on = absurd (true≢false (sym on))
+is_above places.Members on = absurd (true≢false (sym on))
+is_above places.ExtraMembers on = absurd (true≢false (sym on))
+is_above places.Entry on = absurd (true≢false (sym on))
+is_above _ on = record { base = λ k. refl; alias = refl; member = refl; list = refl; entry = refl }
 
 no_lay_base : (done : Members) (s : Place) (ms : Members) → leads_on s ≡ true → lay_base done s ms None ≡ None
 no_lay_base done s no_members h = refl
-no_lay_base done s (member k d ms) h = rw (no_base s k h) (no_lay_base done s ms h)
+no_lay_base done s (member k d ms) h = rw ((is_above s h).base k) (no_lay_base done s ms h)
 
 pub laid_object : (done : Members) (s : Place) (ms : Members) → leads_on s ≡ true → lay done s (object ms) None ≡ object (lay_members done s ms no_members)
 laid_object done s ms h = rw (no_lay_base done s ms h) refl
@@ -181,28 +191,11 @@ bare_again t es v none taken =
 
 -- ---- what is wrong with the whole, whatever sound aliases there are
 
-no_type : (s : Place) → leads_on s ≡ true → names_type s ≡ false
-unfolding leads_on names_alias names_member_type
-no_type places.FieldType above = absurd (true≢false (sym above))
-no_type places.Member above = absurd (true≢false (sym above))
-no_type _ above = refl
-
-no_list : (s : Place) → leads_on s ≡ true → lists_members s ≡ false
-unfolding leads_on lists_members
-no_list places.Members h = absurd (true≢false (sym h))
-no_list places.ExtraMembers h = absurd (true≢false (sym h))
-no_list _ h = refl
-
-no_entry : (s : Place) → leads_on s ≡ true → is_entry s ≡ false
-unfolding leads_on is_entry
-no_entry places.Entry above = absurd (true≢false (sym above))
-no_entry _ above = refl
-
 module _ (al done : Members) where
   -- an object with the aliases in it has no flaw of its own
   own_none : (s : Place) (ms : Members) → leads_on s ≡ true → own_flaws (known_in al) s false (object ms) ≡ []
   unfolding own_flaws
-  own_none s ms above = let type = no_type s above in rw (no_list s above, no_entry s above, (or_parts (names_alias s) (names_member_type s) type).1) refl
+  own_none s ms above = let at = is_above s above in rw (at.list, at.entry, at.member) refl
 
   -- the flaws of a property
   abbrev property_flaws : Place → List ℕ → Data → List Flaw
@@ -211,7 +204,7 @@ module _ (al done : Members) where
 
   property_there : (s : Place) (k : List ℕ) (d : Data) → leads_on s ≡ true → leads_on (place_under s k) ≡ true → property_flaws s k d ≡ value_flaws (known_in al) (Some done) true (place_under s k) false no_members d ++ []
   unfolding alone_flaws
-  property_there s k d above on = rw (no_entry s above, no_base s k above, no_type (place_under s k) on) refl
+  property_there s k d above on = let at = is_above s above in let under = is_above (place_under s k) on in rw (at.entry, at.base k, under.alias, under.member) refl
 
   module _ (s : Place) (n : List ℕ) (f g : Data → Data) (above : leads_on s ≡ true) (on : leads_on (place_under s n) ≡ true)
       (alike : (d : Data) → value_flaws (known_in al) (Some done) true (place_under s n) false no_members (f d) ≡ value_flaws (known_in al) (Some done) true (place_under s n) false no_members (g d)) where
@@ -301,31 +294,25 @@ put_beside n k g x (member l e ms) away = grind (arith, equal_names k l, put_bes
 
 -- ---- what is laid
 
-text_stays : (done : Members) (s : Place) (n : List ℕ) → leads_on s ≡ true → lay_text done s n ≡ string n
-unfolding leads_on names_alias names_member_type
-text_stays done places.FieldType n h = absurd (true≢false (sym h))
-text_stays done places.Member n h = absurd (true≢false (sym h))
-text_stays done _ n h = refl
-
 module _ (done : Members) (s : Place) (above : leads_on s ≡ true) where
   module _ (n : List ℕ) (f g : Data → Data) (each : (d : Data) → lay done (place_under s n) (f d) None ≡ g (lay done (place_under s n) d None)) where
     members_with : (ms : Members) → lay_members done s (with_property n f ms) no_members ≡ with_property n g (lay_members done s ms no_members)
     members_with no_members = refl
     members_with (member k d ms) = elim (cases_Bool (bytes_eq k n)) [
-      | inl is ↦ grind (arith, no_base s k above, put_here n k g (lay done (place_under s k) d None) (lay_members done s ms no_members) is, each d, (bytes_eq-Decides k n).0 is)
-      | inr is ↦ grind (arith, no_base s k above, put_beside n k g (lay done (place_under s k) d None) (lay_members done s ms no_members) is, members_with ms)
+      | inl is ↦ grind (arith, (is_above s above).base k, put_here n k g (lay done (place_under s k) d None) (lay_members done s ms no_members) is, each d, (bytes_eq-Decides k n).0 is)
+      | inr is ↦ grind (arith, (is_above s above).base k, put_beside n k g (lay done (place_under s k) d None) (lay_members done s ms no_members) is, members_with ms)
     ]
 
     value_with : (v : Data) → lay done s (in_property n f v) None ≡ in_property n g (lay done s v None)
     value_with (object ms) = laid_object done s (with_property n f ms) above ∙ ap object (members_with ms) ∙ ap (in_property n g) (sym (laid_object done s ms above))
-    value_with (array es) = rw (no_list s above) refl
-    value_with (string x) = rw (text_stays done s x above) refl
+    value_with (array es) = rw (is_above s above).list refl
+    value_with (string x) = rw ((is_above s above).alias, (is_above s above).member) refl
     value_with _ = refl
 
   object_with : (al : Members) (v : Data) → lay done s (in_object al v) None ≡ in_object (lay_members done s al no_members) (lay done s v None)
   object_with al (object ms) = laid_object done s al above
-  object_with al (array es) = rw (no_list s above) refl
-  object_with al (string x) = rw (text_stays done s x above) refl
+  object_with al (array es) = rw (is_above s above).list refl
+  object_with al (string x) = rw ((is_above s above).alias, (is_above s above).member) refl
   object_with al _ = refl
 
 -- a configuration with other aliases is laid to what it is laid to, with those laid
@@ -353,7 +340,7 @@ module _ (n : List ℕ) (f g : Data → Data) (levels : ℕ) (each : (d : Data) 
   value_deep (object ms) = members_deep ms
   value_deep _ = refl
 
-shallow_put : (done : Members) (v : Data) → members_nest done 28 ≡ true → deep_flaws (with_aliases done v) 32 ≡ deep_flaws (with_aliases no_members v) 32
+shallow_put : (done : Members) (v : Data) → members_depth done ≤ 28 → deep_flaws (with_aliases done v) 32 ≡ deep_flaws (with_aliases no_members v) 32
 unfolding with_aliases
 shallow_put done v shallow =
     value_deep trace_name (in_property type_name (in_property aliases_name (in_object done))) (in_property type_name (in_property aliases_name (in_object no_members))) 31
@@ -361,7 +348,7 @@ shallow_put done v shallow =
     (value_deep aliases_name (in_object done) (in_object no_members) 29 theirs)) v
   where
     theirs : (d : Data) → deep_flaws (in_object done d) 29 ≡ deep_flaws (in_object no_members d) 29
-    theirs (object ms) = nests_shallow (object done) 29 shallow
+    theirs (object ms) = depth_shallow (object done) 29 (omega (arith, shallow))
     theirs _ = refl
 
 -- what is asked is the resolved aliases in what the rest was laid to
@@ -369,7 +356,7 @@ pub asked : (done al : Members) (v laid : Data) → laid ≡ lay done places.Roo
 asked done al v laid is are_laid = ap if_shallow (laid_with done al v are_laid ∙ ap (with_aliases done) (sym is))
 
 -- where shallow aliases are put, what is too deep is so without them
-pub shallow_asked : (done al : Members) (v laid : Data) → laid ≡ lay done places.Root v None → AreLaid done al → members_nest done 28 ≡ true → with_aliases no_members v ≡ v
+pub shallow_asked : (done al : Members) (v laid : Data) → laid ≡ lay done places.Root v None → AreLaid done al → members_depth done ≤ 28 → with_aliases no_members v ≡ v
     → if_shallow (lay done places.Root (with_aliases al v) None) ≡ (refusal (deep_flaws laid 32) >>= (λ a. Ok (with_aliases done laid)))
 shallow_asked done al v laid is are_laid shallow bare =
     let none = ap (with_aliases no_members) is ∙ laid_bare done v bare ∙ sym is in

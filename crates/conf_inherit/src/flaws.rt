@@ -97,7 +97,7 @@ fn mark<'a>(entry: &'a Value, seen: &mut BTreeMap<&'a str, ()>) -> Result<(), Al
 /// Refuses the first flaw of a value and all that is in it, the limits of the field types that are no part of another
 /// among them. `seen` has the names of the entries before it.
 #[cycle(flaws)]
-#[tactic(auto, using(crate::proofs::FaultLemmas::refused_first, crate::proofs::FaultLemmas::refused_later, crate::proofs::SoundPlaces::ignored_inner))]
+#[tactic(auto, using(crate::proofs::FaultLemmas::refused_first, crate::proofs::FaultLemmas::refused_later, crate::proofs::FaultLemmas::ignored_inner))]
 fn check_flaws(
     known: Known,
     value: &Value,

@@ -7,7 +7,7 @@ ghost use Rattle.conf_inherit.specs.{Laying.{lay, resolved}, Limits.{fitting, pa
 use crate::field_places::names_alias;
 use crate::laying::lay;
 use crate::named::{Asked, all_named};
-use crate::nesting::nests;
+use crate::nesting::is_deeper;
 use crate::property::property;
 use crate::size::{Stop, count};
 use conf_table::Place;
@@ -59,8 +59,8 @@ pub(crate) fn fit(
     ensures memory { IfErr result IsMemory }
 {
     match lay(alloc, place, value, None, resolved, Some(MAX_VALUES)) {
-        Ok(laid) if nests(&laid, MAX_LEVELS) => Ok(Ok(laid)),
-        Ok(_) => Ok(Err(FaultKind::TooDeep)),
+        Ok(laid) if is_deeper(&laid, MAX_LEVELS) => Ok(Err(FaultKind::TooDeep)),
+        Ok(laid) => Ok(Ok(laid)),
         Err(Stop::Limit) => Ok(Err(FaultKind::Limit)),
         Err(Stop::Memory) => Err(ConfFault::memory(alloc)),
     }
@@ -81,7 +81,7 @@ fn check_alias_limits(
     if count(alias, MAX_VALUES).is_none() {
         return Err(ConfFault::here(alloc, FaultKind::Limit));
     }
-    if !nests(alias, MAX_LEVELS) {
+    if is_deeper(alias, MAX_LEVELS) {
         return Err(ConfFault::here(alloc, FaultKind::TooDeep));
     }
     Ok(())

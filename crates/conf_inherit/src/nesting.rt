@@ -1,8 +1,8 @@
 //! How deep objects and lists nest.
-ghost use Rattle.std.specs.Prelude.{◌≡◌};
-ghost use Rattle.serde_json.specs.View.{view, items_view, members_view};
+ghost use Rattle.std.specs.Prelude.{◌≡◌, nat_lt};
+ghost use Rattle.serde_json.specs.{Data.{depth, items_depth, members_depth}, View.{view, items_view, members_view}};
 ghost use Rattle.conf_tree.specs.{Reading.Gives, Walk.refusal};
-ghost use Rattle.conf_inherit.specs.Nesting.{nests, items_nest, members_nest, deep_flaws, deep_item_flaws, deep_member_flaws};
+ghost use Rattle.conf_inherit.specs.Nesting.{deep_flaws, deep_item_flaws, deep_member_flaws};
 
 use conf_tree::{ConfFault, FaultKind};
 use serde_json::{Map, Value};
@@ -12,40 +12,43 @@ use std::alloc::Global;
 /// of the aliases, the trace type, the trace and the configuration.
 pub(crate) const ALIAS_LEVELS: usize = 28;
 
-/// Whether objects and lists nest at most so many levels deep.
-#[cycle(nesting)]
-pub(crate) fn nests(value: &Value, levels: usize) -> bool
-    ensures { result ≡ nests (view value.now) levels }
+/// Whether objects and lists nest more levels deep.
+#[cycle(deeper)]
+#[tactic(auto, using(crate::proofs::SizeLemmas::deeper_flat, crate::proofs::SizeLemmas::deeper_inside))]
+pub(crate) fn is_deeper(value: &Value, levels: usize) -> bool
+    ensures { result ≡ nat_lt levels (depth (view value.now)) }
 {
     match value {
-        Value::Null | Value::Bool(_) | Value::Number(_) | Value::String(_) => true,
-        Value::Array(items) => levels > 0 && items_nest(items, levels - 1),
-        Value::Object(members) => levels > 0 && members_nest(members, levels - 1),
+        Value::Null | Value::Bool(_) | Value::Number(_) | Value::String(_) => false,
+        Value::Array(items) => levels == 0 || are_items_deeper(items, levels - 1),
+        Value::Object(members) => levels == 0 || are_members_deeper(members, levels - 1),
     }
 }
 
-#[cycle(nesting)]
-fn items_nest(items: &Vec<Value>, levels: usize) -> bool
-    ensures { result ≡ items_nest (items_view items.now.items) levels }
+#[cycle(deeper)]
+#[tactic(auto, using(crate::proofs::SizeLemmas::deeper_flat, crate::proofs::SizeLemmas::deeper_first, crate::proofs::SizeLemmas::deeper_rest))]
+fn are_items_deeper(items: &Vec<Value>, levels: usize) -> bool
+    ensures { result ≡ nat_lt levels (items_depth (items_view items.now.items)) }
 {
     for item in items {
-        if !nests(item, levels) {
-            return false;
+        if is_deeper(item, levels) {
+            return true;
         }
     }
-    true
+    false
 }
 
-#[cycle(nesting)]
-fn members_nest(members: &Map<String, Value>, levels: usize) -> bool
-    ensures { result ≡ members_nest (members_view members.now.entries) levels }
+#[cycle(deeper)]
+#[tactic(auto, using(crate::proofs::SizeLemmas::deeper_flat, crate::proofs::SizeLemmas::deeper_first, crate::proofs::SizeLemmas::deeper_rest))]
+fn are_members_deeper(members: &Map<String, Value>, levels: usize) -> bool
+    ensures { result ≡ nat_lt levels (members_depth (members_view members.now.entries)) }
 {
     for (_name, member) in members.iter() {
-        if !nests(member, levels) {
-            return false;
+        if is_deeper(member, levels) {
+            return true;
         }
     }
-    true
+    false
 }
 
 /// Refuses the first object or list that stands inside so many others, in walk order.

@@ -1,9 +1,9 @@
 //! What became of the aliases so far.
-ghost use Rattle.std.specs.Prelude.{◌≡◌, true};
-ghost use Rattle.serde_json.specs.View.{members_view};
-ghost use Rattle.conf_inherit.specs.{Nesting.members_nest, declared.nesting.TheConstants.ALIAS_LEVELS};
+ghost use Rattle.std.specs.Prelude.{◌≡◌, ◌≤◌, true};
+ghost use Rattle.serde_json.specs.{Data.members_depth, View.members_view};
+ghost use Rattle.conf_inherit.specs.declared.nesting.TheConstants.{ALIAS_LEVELS};
 
-use crate::nesting::{ALIAS_LEVELS, nests};
+use crate::nesting::{ALIAS_LEVELS, is_deeper};
 use crate::property::{has, put_property};
 use conf_tree::FaultKind;
 use serde_json::{Map, Value};
@@ -18,7 +18,7 @@ pub(crate) struct AliasOutcomes {
     pub refused: Map<String, Value>,
     /// Whether each resolved alias is known to nest at most `ALIAS_LEVELS` levels.
     pub shallow: bool,
-    ghost nested: { shallow ≡ true → members_nest (members_view resolved.entries) ALIAS_LEVELS ≡ true },
+    ghost nested: { shallow ≡ true → members_depth (members_view resolved.entries) ≤ ALIAS_LEVELS },
 }
 
 /// The aliases that a value may name, and those of them that are resolved.
@@ -76,11 +76,11 @@ impl AliasOutcomes {
     }
 
     /// Notes that the alias is resolved.
-    #[tactic(auto, using(crate::proofs::SizeLemmas::nest_put))]
+    #[tactic(auto, using(crate::proofs::SizeLemmas::depth_put))]
     pub(crate) fn resolve(&mut self, name: &String, alias: Value) -> Result<(), AllocError>
         ensures { OnOk result (outcomes_of self.new ≡ concluded (string_bytes name.now) (outcomes_of self.old) (Some (view alias))) }
     {
-        let shallow = self.shallow && nests(&alias, ALIAS_LEVELS);
+        let shallow = self.shallow && !is_deeper(&alias, ALIAS_LEVELS);
         // Of an alias that may be in or not, where memory runs out, nothing is said.
         self.shallow = false;
         put_property(&mut self.resolved, name, alias)?;

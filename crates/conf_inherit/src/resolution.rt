@@ -1,10 +1,10 @@
 //! Resolves the inheritance of a configuration.
-ghost use Rattle.std.specs.Prelude.{◌≡◌, ◌⊎◌, ℕ, Some, None, IfOk, IfErr, true, map};
+ghost use Rattle.std.specs.Prelude.{◌≡◌, ◌≤◌, ◌⊎◌, ℕ, Some, None, IfOk, IfErr, true, map};
 ghost use Rattle.conf_tree.specs.{Flaw.{flaw_of, IsMemory}, Reading.Gives};
 ghost use Rattle.conf_inherit.specs.{AliasOutcomes.outcomes_of, Whole.{at_way, with_object, with_aliases, AreLaid}, declared.nesting.TheConstants.ALIAS_LEVELS};
-ghost use Rattle.conf_inherit.specs.{Faults.RefusalHolds, Laying.lay, Nesting.members_nest, Rounds.{rounds, no_outcomes}, Spent.Spends};
+ghost use Rattle.conf_inherit.specs.{Faults.RefusalHolds, Laying.lay, Rounds.{rounds, no_outcomes}, Spent.Spends};
 ghost use Rattle.conf_inherit.specs.{Names.NoClash, Resolution.{aliases_of, members_or_none, Resolves, in_aliases, if_shallow, resolution_after, resolution}};
-ghost use Rattle.serde_json.specs.{Data.{Members, no_members}, View.{view, members_view}};
+ghost use Rattle.serde_json.specs.{Data.{Members, no_members, members_depth}, View.{view, members_view}};
 
 use crate::alias_check::check_aliases;
 use crate::flaws::check_value;
@@ -83,7 +83,7 @@ fn lay_all(
     shallow: bool,
 ) -> Result<Value, ConfFault>
     requires bare { with_aliases no_members (view value.now) ≡ view value.now }
-    requires shallow { shallow ≡ true → members_nest (members_view resolved.entries) ALIAS_LEVELS ≡ true }
+    requires shallow { shallow ≡ true → members_depth (members_view resolved.entries) ≤ ALIAS_LEVELS }
     ensures first { (al : Members) → AreLaid (members_view resolved.entries) al
         → Gives view result (if_shallow (lay (members_view resolved.entries) Place.Root (with_aliases al (view value.now)) None)) }
 {

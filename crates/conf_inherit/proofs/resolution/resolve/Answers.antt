@@ -4,7 +4,7 @@ use Rattle.serde_json.specs.{Data.{Data, Members}, Events.members_len, View.{vie
 use Rattle.serde_json.proofs.Views.{members_len-members_view}
 use Rattle.conf_tree.specs.Flaw.{flaw_of}
 use Rattle.conf_inherit.specs.{Names.NoClash, Resolution.{aliases_of, resolution, resolution_after}, Rounds.{Outcomes, rounds, no_outcomes}, Whole.with_aliases}
-use Rattle.conf_inherit.proofs.{RefusalLemmas.refusal_holds, RoundLemmas.{resolution_is, resolution_sound}, SizeLemmas.nests_deep}
+use Rattle.conf_inherit.proofs.{RefusalLemmas.refusal_holds, RoundLemmas.{resolution_is, resolution_sound}}
 use Rattle.conf_inherit.proofs.{LookedUp.resolved_clean, TakenLemmas.{back_again, bare_again}}
 use Rattle.conf_inherit.proofs.resolution.resolve.Goals as goal
 
@@ -33,7 +33,7 @@ invariant_of-result c =
     let sound = resolution_sound t (view c.in_ok-value.value) (subst NoClash c.replace_aliases-aliases.ensures.old c.in_ok-outcomes.ensures.apart) (is ∙ c.in_ok-value.ensures.first al (btree_map_len c.replace_aliases-aliases.result) c.in_ok-outcomes.ensures.apart c.in_ok-outcomes.ensures.settled c.in_ok-outcomes.ensures.spent) in
     let clean = resolved_clean t (view c.in_ok-value.value) (c.args.tree.ordered, c.args.tree.whole) sound.0 in
     record {
-      nested = (nests_deep (view c.in_ok-value.value) 32).0 sound.1;
+      nested = sound.1;
       whole = clean.1;
       ordered = clean.0;
     }
