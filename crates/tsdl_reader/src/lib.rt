@@ -1,6 +1,7 @@
 //! Reads a TSDL metadata text into the metadata that it denotes, and says in words why one denotes none.
 #![tactic(auto)]
 
+mod cut;
 mod laws;
 mod meaning;
 mod read;

@@ -1,17 +1,49 @@
 //! Why no token starts where none does, in words.
 
 use std::alloc::{AllocError, Global};
-use tsdl_grammar::escaped_byte;
+use tsdl_flaw::CONVERTED;
+use tsdl_grammar::{escaped_byte, first_token};
 
-/// What is wrong with bytes that begin no token, None where their first one is a wrong character.
-pub(crate) fn token_words(alloc: Global, bytes: &[u8]) -> Result<Option<String>, AllocError> {
-    let words = match bytes {
+/// What is wrong with the bytes of a text from a place on at which no token begins, None where the first one is a wrong
+/// character.
+pub(crate) fn token_words(
+    alloc: Global,
+    text: &[u8],
+    place: usize,
+) -> Result<Option<String>, AllocError> {
+    let words = match text.get(place..).unwrap_or(&[]) {
         [b'"', content @ ..] => return Ok(Some(string_words(alloc, content)?)),
+        [b'<' | b'>', ..] => return Ok(Some(angle_words(alloc, text, place)?)),
         [b'/', b'*', ..] => "this comment has no end",
-        [b'<' | b'>', ..] => "`<` and `>` are TSDL that is not read here",
+        [b'*', b'/', ..] => "no comment ends here: comments do not nest",
+        [b'*', ..] => "`*` is TSDL that is not read here",
+        [b'\'', ..] => "character constants are TSDL that is not read here",
         _ => return Ok(None),
     };
     Ok(Some(String::from_str(alloc, words)?))
+}
+
+/// What is wrong with the mark of a variant. A text with names of types before it is converted, as that of a tracer which
+/// writes variants around the numbers and the times of its events.
+fn angle_words(alloc: Global, text: &[u8], place: usize) -> Result<String, AllocError> {
+    let remedy = if names_types(text.get(..place).unwrap_or(text)) {
+        CONVERTED
+    } else {
+        ""
+    };
+    format!(in alloc; "`<` and `>` are TSDL that is not read here{remedy}")
+}
+
+/// Whether a type gets a name in a text.
+fn names_types(text: &[u8]) -> bool {
+    let mut rest = text;
+    while let Some((front, behind)) = first_token(rest) {
+        if matches!(front.word(), Some("typealias" | "typedef")) {
+            return true;
+        }
+        rest = behind;
+    }
+    false
 }
 
 /// What is wrong with a string, of which the first quote is passed.
@@ -36,7 +68,9 @@ fn string_words(alloc: Global, content: &[u8]) -> Result<String, AllocError> {
 
 /// What is wrong with a backslash before a byte.
 fn escape_words(alloc: Global, b: u8) -> Result<String, AllocError> {
-    if b.is_ascii_graphic() {
+    if matches!(b, b'0'..=b'7' | b'x' | b'u' | b'U') {
+        String::from_str(alloc, "numeric escapes are TSDL that is not read here")
+    } else if b.is_ascii_graphic() {
         format!(in alloc; "this string has `\\{}`, which is no escape", char::from(b))
     } else {
         String::from_str(alloc, "this string has a backslash that begins no escape")

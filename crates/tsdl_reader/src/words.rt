@@ -3,11 +3,12 @@
 ghost use Rattle.std.specs.Prelude.{◌≡◌, true, IfOk, IfSome, string_bytes};
 ghost use Rattle.tsdl_reader.specs.Explained.{says_all, IsExplained, IsSaid, TellsNumbers};
 
+use crate::cut::with_short_name;
 use crate::meaning::meaning;
 use crate::token_words::token_words;
 use std::alloc::{AllocError, Global};
 use tsdl_flaw::{CONVERTED, Flaw, Stop};
-use tsdl_grammar::{MetaFault, MetaFaultKind, check_tokens, found_at};
+use tsdl_grammar::{MAGIC_LINE, MetaFault, MetaFaultKind, check_tokens, found_at};
 
 /// What packets of metadata begin with, as numbers in both byte orders.
 const PACKET_MAGIC: [[u8; 4]; 2] = [[0x57, 0x1d, 0xd1, 0x75], [0x75, 0xd1, 0x1d, 0x57]];
@@ -37,8 +38,8 @@ fn told_by(alloc: Global, text: &[u8], fault: &MetaFault) -> Result<Option<Strin
     ensures { says_all fault.now.kind ≡ true → IfOk result (λ said. IfSome said (λ words. TellsNumbers fault.now.kind (string_bytes words))) }
 {
     match fault.kind {
-        MetaFaultKind::NoMagicLine => packets_words(alloc, text),
-        MetaFaultKind::Token => token_words(alloc, text.get(fault.place..).unwrap_or(&[])),
+        MetaFaultKind::NoMagicLine => beginning_words(alloc, text),
+        MetaFaultKind::Token => token_words(alloc, text, fault.place),
         MetaFaultKind::Syntax | MetaFaultKind::Unsupported(_) | MetaFaultKind::Limit => {
             atoms_words(alloc, text)
         }
@@ -47,12 +48,20 @@ fn told_by(alloc: Global, text: &[u8], fault: &MetaFault) -> Result<Option<Strin
     }
 }
 
-/// Metadata in packets, as tracers write it that stream it.
-fn packets_words(alloc: Global, text: &[u8]) -> Result<Option<String>, AllocError> {
-    if !PACKET_MAGIC.iter().any(|magic| text.starts_with(magic)) {
-        return Ok(None);
+/// What a text begins with that is known in place of its magic line: a packet of metadata, as tracers write them that
+/// stream it, the first record of metadata of CTF 2, or a byte order mark.
+fn beginning_words(alloc: Global, text: &[u8]) -> Result<Option<String>, AllocError> {
+    if PACKET_MAGIC.iter().any(|magic| text.starts_with(magic)) {
+        return Ok(Some(format!(in alloc; "metadata in packets is not read here{CONVERTED}")?));
     }
-    Ok(Some(format!(in alloc; "metadata in packets is not read here{CONVERTED}")?))
+    let words = match text {
+        [0x1e, b'{', ..] => "this is metadata of CTF 2, which is not read here",
+        [0xef, 0xbb, 0xbf, behind @ ..] if behind.starts_with(MAGIC_LINE) => {
+            "a byte order mark stands before the line `/* CTF 1.8 */`"
+        }
+        _ => return Ok(None),
+    };
+    Ok(Some(String::from_str(alloc, words)?))
 }
 
 /// Which numbers stand twice, or which stream lacks a size.
@@ -77,7 +86,7 @@ fn numbers_words(
 /// What is wrong with the atoms of a text, in words.
 fn atoms_words(alloc: Global, text: &[u8]) -> Result<Option<String>, AllocError> {
     match flaw_of_atoms(alloc, text)? {
-        Some(flaw) => flaw.words(alloc),
+        Some(flaw) => with_short_name(alloc, flaw)?.words(alloc),
         None => Ok(None),
     }
 }
