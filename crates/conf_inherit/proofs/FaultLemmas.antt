@@ -3,7 +3,7 @@ use Rattle.std.proofs.Common.{cond, ◌≡◌, ◌&&◌, ◌++◌, inl, inr, ℕ
 use Rattle.std.proofs.lemmas.{Bool.{and_parts, cases_Bool, or_parts, and_left, and_right, and_from}, Option.{same_Some}}
 use Rattle.std.specs.{Prelude.⊤, Borrow.Bor, BTreeMap.{is_at, insert_entry}, Cmp.Lexicographic.slice_cmp, Map.lookup}
 use Rattle.serde_json.specs.{Data.{Data, null, string, array, object, Items, no_items, item, Members, no_members, member, put}, Find.{get_member, get_item}}
-use Rattle.serde_json.specs.{View.view, declared.value.Value.{Value, Array}}
+use Rattle.serde_json.specs.{View.{view, items_view}, declared.value.Value.{Value, Array}}
 use Rattle.serde_json.proofs.Views.{get_member-put, get_member-put_other, items_len-items_view, view-Array}
 use Rattle.conf_tree.specs.{Flaw.{key, index, within, Flaw, Place as Step, here}, Walk.{HasMember, refusal}}
 use Rattle.conf_tree.specs.declared.fault_kind.FaultKind.{FaultKind}
@@ -14,7 +14,7 @@ use Rattle.conf_inherit.specs.{FieldPlaces.{place_under, place_of_items, names_t
 use Rattle.conf_inherit.specs.Flaws.{is_wrong, is_no_entry, is_no_member, known_in, name_fault, is_crowded, fault_or, own_flaws, limits, is_alone, alone_flaws, is_outside, inner_flaws, item_flaws, member_flaws, value_flaws, mark, mark_names}
 use Rattle.conf_inherit.specs.{Named.{Names, all_named, all_named_in_items, all_named_in_members, has}}
 use Rattle.conf_inherit.specs.{Faults.{Leads, HasEntry, Tells, FlawHolds}, Circle.{Mentions, MentionsInItems, MentionsInMembers}, SeenNames.members_named}
-use Rattle.conf_inherit.proofs.{FieldPlaceLemmas.{list_place, entry_list, ignored_under}, LayingLemmas.{get_other, same, other, meets, stands}}
+use Rattle.conf_inherit.proofs.{FieldPlaceLemmas.{list_place, entry_list, ignored_under, unlisted_place}, LayingLemmas.{get_other, same, other, meets, stands}}
 
 pub part_empty : {A B : Type 0} (f : A → B) (xs : List A) (ys : List B) → map f xs ++ ys ≡ [] → (xs ≡ []) × (ys ≡ [])
 part_empty f [] ys e = (refl, e)
@@ -150,13 +150,15 @@ module _ (ask : List ℕ → Option FaultKind) (known : Option Members) where
     unfolding place_of_items is_entry
 
     ignored_at : (v : Data) (outside : Bool) (seen : Members) → inner_flaws ask known outside places.Ignored seen v ≡ []
-    ignored_at (array es) outside seen = ignored_items es outside 0 no_members
+    ignored_at (array es) outside seen = ignored_items es outside places.Ignored 0 no_members refl
     ignored_at (object ms) outside seen = ignored_members ms outside seen
     ignored_at _ outside seen = refl
 
-    ignored_items : (es : Items) (outside : Bool) (i : ℕ) (seen : Members) → item_flaws ask known outside places.Ignored i seen es ≡ []
-    ignored_items no_items outside i seen = refl
-    ignored_items (item e es) outside i seen = same_part (within (index i)) _ _ _ [] [] [] (own_ignored e) (ignored_at e outside seen) (ignored_items es outside (suc i) (mark e seen))
+    ignored_items : (es : Items) (outside : Bool) (s : Place) (i : ℕ) (seen : Members) → place_of_items s ≡ places.Ignored → item_flaws ask known outside s i seen es ≡ []
+    ignored_items no_items outside s i seen is = refl
+    ignored_items (item e es) outside s i seen is =
+        let mine : value_flaws ask known outside (place_of_items s) false seen e ≡ [] = subst (λ t. value_flaws ask known outside t false seen e ≡ []) (sym is) (rw (own_ignored e) (ignored_at e outside seen)) in
+        ap (λ fs. map (within (index i)) fs ++ item_flaws ask known outside s (suc i) (mark e seen) es) mine ∙ ignored_items es outside s (suc i) (mark e seen) is
 
     ignored_members : (ms : Members) (outside : Bool) (seen : Members) → member_flaws ask known outside places.Ignored seen ms ≡ []
     ignored_members no_members outside seen = refl
@@ -165,8 +167,9 @@ module _ (ask : List ℕ → Option FaultKind) (known : Option Members) where
         subst (λ t. value_flaws ask known (is_outside outside t) t false no_members d ≡ []) (sym (ignored_under k)) (rw (own_ignored d) (ignored_at d (is_outside outside places.Ignored) no_members)) in
         same_part (within (key k)) _ _ _ [] [] [] mine (no_limit outside k d) (ignored_members ms outside seen)
 
-pub ignored_inner : (ask : List ℕ → Option FaultKind) (known : Option Members) (outside : Bool) (s : Place) (seen : Members) (v : Data) → s ≡ places.Ignored → inner_flaws ask known outside s seen v ≡ []
-ignored_inner ask known outside s seen v is = rw is (ignored_at ask known v outside seen)
+-- so nothing is in a list that is no members list
+pub unlisted : (ask : List ℕ → Option FaultKind) (known : Option Members) (outside : Bool) (s : Place) (seen : Members) (v : Value) (vs : Vec Value Global) (listed : Bool) → v ≡ Array vs → listed ≡ lists_members s → listed ≡ false → inner_flaws ask known outside s seen (view v) ≡ []
+unlisted ask known outside s seen v vs listed is at none = rw (ap view is ∙ view-Array vs) (ignored_items ask known (items_view vs.items) outside s 0 no_members (unlisted_place s (sym at ∙ none)))
 
 -- Each flaw that is listed holds at its path.
 

@@ -52,6 +52,12 @@ list_place places.Members h = refl
 list_place places.ExtraMembers h = refl
 list_place _ h = absurd (true≢false (sym h))
 
+pub unlisted_place : (s : Place) → lists_members s ≡ false → place_of_items s ≡ places.Ignored
+unfolding lists_members place_of_items
+unlisted_place places.Members h = absurd (true≢false h)
+unlisted_place places.ExtraMembers h = absurd (true≢false h)
+unlisted_place _ h = refl
+
 -- an entry stands in a members list
 pub entry_list : (s : Place) → is_entry (place_of_items s) ≡ true → lists_members s ≡ true
 unfolding lists_members place_of_items is_entry

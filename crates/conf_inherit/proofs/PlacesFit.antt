@@ -5,21 +5,15 @@ use Rattle.serde_json.specs.{Data.{Data, array, object, Items, no_items, item, M
 use Rattle.conf_tree.specs.{Flaw.{Place as Step, key, index}, Order.{Ascends, ItemsAscend}, Walk.HasMember}
 use Rattle.conf_table.specs.{declared.place.Place.Place, Table.{rows_of, entries_of, content_under, place_in}}
 use Rattle.conf_inherit.specs.FieldPlaces.{field_place, place_under, place_of_items, names_alias, names_member_type, names_type, is_base_name, lists_members, is_entry}
-use Rattle.conf_inherit.specs.{Faults.Leads, Limits.{Fits, limit_flaws}, Flaws.{is_wrong, is_no_entry, known_in, is_alone, is_outside, value_flaws, whole_flaws}}
+use Rattle.conf_inherit.specs.{Faults.Leads, Limits.{Fits}, Flaws.{is_wrong, is_no_entry, known_in, is_alone, is_outside, value_flaws, whole_flaws}}
 use Rattle.conf_inherit.specs.{Laying.{lay, lay_base, lay_members, lay_new, lay_new_entry, lay_new_member, has_entry, members_below}, Named.{Names, all_named, has}}
 use Rattle.conf_inherit.specs.Looks.{AreResolved}
 use Rattle.conf_inherit.proofs.{LaysOver.{laid_entry, property_stands, ground_base, lays, grows}, LayingLemmas.{each_has, has_found, lay_members-found, found_each}}
 use Rattle.conf_inherit.proofs.FaultLemmas.{SoundAt, named, own_sound, single_entry, joined_empty, member_sound, item_sound, sound_under}
 use Rattle.conf_inherit.proofs.SizeLemmas.{NoLargerItems, unchanged, items_through, next_value, further_value, none_more, fits_below, property_fits, item_fits}
 use Rattle.conf_inherit.proofs.{LookedUp.{apart, member_in_order}, LimitLemmas.{alone_limit, limit_fits}}
-use Rattle.conf_inherit.proofs.FieldPlaceLemmas.{list_place, ignored_under}
+use Rattle.conf_inherit.proofs.FieldPlaceLemmas.{list_place, unlisted_place, ignored_under}
 use Rattle.conf_table.specs.declared.place.Place.TheVariants as places
-
-lists_or_ignored : (s : Place) → (lists_members s ≡ true) ⊎ (place_of_items s ≡ places.Ignored)
-unfolding lists_members place_of_items
-lists_or_ignored places.Members = inl refl
-lists_or_ignored places.ExtraMembers = inl refl
-lists_or_ignored _ = inr refl
 
 -- no text in a list is the name of an alias
 items_untyped : (s : Place) → names_type (place_of_items s) ≡ false
@@ -138,10 +132,10 @@ module _ (al done : Members) (known : AreResolved al done) (all : (n : List ℕ)
         sound = none;
         in_order = item_in_order es i e h.in_order there;
         untyped = λ out. items_untyped s;
-        whole = λ inside away. elim (lists_or_ignored s) [
+        whole = λ inside away. elim (cases_Bool (lists_members s)) [
           | inl is ↦ (let place = list_place s is in
               subst (λ t. Fits (lay done t e None)) (sym place) (entry_fits done s es i e is (single_entry e (subst (λ t. is_wrong t e ≡ false) place right)) there (h.whole inside (λ no. away (ap place_of_items no)))))
-          | inr is ↦ absurd (away is)
+          | inr is ↦ absurd (away (unlisted_place s is))
         ];
       }
 

@@ -1,5 +1,5 @@
 -- The kind of a refusal holds at its path.
-use Rattle.std.proofs.Common.{◌≡◌, ◌⊎◌, inl, inr, ℕ, suc, List, [], ◌∷◌, Option, Some, None, option_and_then, Result, Ok, Err, is_some, Bool, true, false, refl, sym, ap, ◌∙◌, subst}
+use Rattle.std.proofs.Common.{◌≡◌, ◌⊎◌, inl, inr, ℕ, List, [], ◌∷◌, Option, Some, None, option_and_then, Result, Ok, Err, is_some, Bool, true, false, refl, sym, ap, ◌∙◌, subst}
 use Rattle.std.proofs.lemmas.Bool.{cases_Bool, or_cases, or_from, true≢false}
 use Rattle.std.specs.Prelude.{⊤}
 use Rattle.serde_json.specs.{Data.{Data, array, object, Members, no_members, member}, Events.members_len}

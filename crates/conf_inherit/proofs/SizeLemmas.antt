@@ -1,5 +1,5 @@
 -- Counting: the parts of a whole, and what a limit leaves.
-use Rattle.std.proofs.Common.{inr, inl, ◌≡◌, ◌+◌, ◌<◌, ◌≤◌, ◌++◌, ℕ, List, [], ◌∷◌, length, Option, Some, None, Bool, true, false, string_bytes, refl, sym, ap, ◌∙◌, subst, arith, zero, suc, max, nat_lt, ◌-◌}
+use Rattle.std.proofs.Common.{inr, inl, ◌≡◌, ◌+◌, ◌<◌, ◌≤◌, ◌++◌, ℕ, List, [], ◌∷◌, length, Option, Some, None, true, false, string_bytes, refl, sym, ap, ◌∙◌, subst, arith, zero, suc, max, nat_lt, ◌-◌}
 use Rattle.std.proofs.lemmas.{Bool.{cases_Bool, lt-ltb, le-ltb, ltb-false}, Option.{same_Some}}
 use borrow.Author.Tests.{ltb-true}
 use Rattle.serde_json.specs.Data.{Data, array, object, Items, no_items, item, Members, no_members, member, put, depth, items_depth, members_depth}

@@ -5,7 +5,7 @@ use Rattle.std.specs.{BTreeMap.is_at, Cmp.Lexicographic.slice_cmp, List.Sorted.I
 use Rattle.serde_json.specs.{Data.{Data, member, put, null, Members, no_members}, View.{view, members_view}}
 use Rattle.serde_json.specs.{Find.get_member, declared.value.Value.{Value, Null, the_lemmas}, Events.members_len}
 use Rattle.serde_json.proofs.Views.{Entry}
-use Rattle.conf_inherit.specs.{Names.{AllAbove, NoClash}, Limits.{fitting, limit_flaws}, Named.{all_named, has}, Spent.{Spends, spent, TurnsLeave}}
+use Rattle.conf_inherit.specs.{Names.{AllAbove, NoClash}, Limits.{fitting}, Named.{all_named, has}, Spent.{Spends, spent, TurnsLeave}}
 use Rattle.conf_inherit.specs.{AliasFlaws.{open_in, alias_flaws, all_alias_flaws}, Flaws.{known_in, value_flaws}, Laying.lay}
 use Rattle.conf_inherit.specs.Rounds.{Outcomes, has_outcome, is_over, is_empty, if_fitting, outcome, step, round, rounds, no_outcomes, Reached, at_first, turned, all_settled}
 use Rattle.conf_inherit.proofs.LayingLemmas.{above_of, above_through, get_none, same, other, meets, get_other, get_same, same_function, stands, some_is_none, AllEntries, found_each}

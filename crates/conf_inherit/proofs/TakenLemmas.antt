@@ -10,7 +10,7 @@ use Rattle.conf_tree.specs.{Flaw.{Flaw, key, within, flaw_of, IsMemory}, Walk.{r
 use Rattle.conf_table.specs.declared.place.Place.TheVariants as places
 use Rattle.conf_table.specs.{declared.place.Place.{Place}, Table.{rows_of, entries_of, content_under, place_in}}
 use Rattle.conf_inherit.specs.{AliasFlaws.{all_alias_flaws}, Flaws.{known_in, own_flaws, alone_flaws, is_outside, inner_flaws, member_flaws, value_flaws, type_flaws, whole_flaws}, Limits.{limit_flaws}, Names.{NoClash}, Spent.{Spends}}
-use Rattle.conf_inherit.specs.Laying.{lay, lay_base, lay_members, lay_text}
+use Rattle.conf_inherit.specs.Laying.{lay, lay_base, lay_members}
 use Rattle.conf_inherit.specs.{Whole.{AreLaid, at_way, with_property, in_property, in_object, with_object, with_aliases}, Named.{has}}
 use Rattle.conf_inherit.specs.FieldPlaces.{field_place, place_under, names_alias, names_member_type, is_base_name, lists_members, is_entry}
 use Rattle.conf_inherit.specs.Rounds.{Outcomes, has_outcome, outcome, rounds, no_outcomes, Reached}

@@ -97,7 +97,7 @@ fn mark<'a>(entry: &'a Value, seen: &mut BTreeMap<&'a str, ()>) -> Result<(), Al
 /// Refuses the first flaw of a value and all that is in it, the limits of the field types that are no part of another
 /// among them. `seen` has the names of the entries before it.
 #[cycle(flaws)]
-#[tactic(auto, using(crate::proofs::FaultLemmas::refused_first, crate::proofs::FaultLemmas::refused_later, crate::proofs::FaultLemmas::ignored_inner))]
+#[tactic(auto, using(crate::proofs::FaultLemmas::refused_first, crate::proofs::FaultLemmas::refused_later, crate::proofs::FaultLemmas::unlisted))]
 fn check_flaws(
     known: Known,
     value: &Value,
@@ -110,8 +110,8 @@ fn check_flaws(
     check_itself(known, value, place, taken)?;
     match value {
         Value::Null | Value::Bool(_) | Value::Number(_) | Value::String(_) => Ok(()),
-        _ if matches!(place, Place::Ignored) => Ok(()),
-        Value::Array(items) => check_items(known, items, place),
+        Value::Array(items) if lists_members(place) => check_items(known, items, place),
+        Value::Array(_) => Ok(()),
         Value::Object(members) => check_members(known, members, place, seen),
     }
 }
