@@ -9,4 +9,8 @@ pub mod TableFlawLaws
 pub mod Agreement
 pub mod ValueFlawLaws
 pub mod TableLimitLaws
+pub mod WalkOrderLaws
+pub mod FirstFlawLaws
+pub mod FirstLimitLaws
 pub mod Worked
+pub mod WorkedOrder

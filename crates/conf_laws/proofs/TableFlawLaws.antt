@@ -13,12 +13,12 @@ use Rattle.conf_laws.proofs.Words.presences
 -- ---- properties
 
 -- what an object inherits from is none of its properties
-property : (place : Place) (name : List ℕ) (content : Content) → (resolved_content place name ≡ Some content) ↔ IsPropertyOf place name content
+pub property : (place : Place) (name : List ℕ) (content : Content) → (resolved_content place name ≡ Some content) ↔ IsPropertyOf place name content
 unfolding resolved_content
 property place name content = grind (arith, nat_tests, bytes_eq-Decides name (codes "$inherit"))
 
 -- a null of this presence stands for no value
-left : (o : Option Presence) (d : Data) → IsTrue (left_out o d) ↔ ((d ≡ null) × ((presence : Presence) × (o ≡ Some presence) × (presence ≢ presences.Needed)))
+pub left : (o : Option Presence) (d : Data) → IsTrue (left_out o d) ↔ ((d ≡ null) × ((presence : Presence) × (o ≡ Some presence) × (presence ≢ presences.Needed)))
 left o d = grind arith
 
 -- ---- the class
@@ -41,7 +41,7 @@ module _ (place : Place) (ms : Members) where
   unfolding is_position
   no_position flaw is wrong = grind (arith, is, wrong)
 
-  class_judged : IsJudged (class_rule place ms) (IsNoClassAt place ms)
+  pub class_judged : IsJudged (class_rule place ms) (IsNoClassAt place ms)
   unfolding class_rule
   class_judged =
       by_test (λ (b : Bool). IsJudged (cond b (needed (codes "class") ms >>= (λ d. at (key (codes "class")) (text_of d) >>= (λ w. admitted place (class_in w class_words)))) (Ok tt)) (IsNoClassAt place ms)) (is_position place)
@@ -101,7 +101,7 @@ no_bits_found : (d : Data) → HasNoBits d → has_bits d ≡ false
 no_bits_found d (HasNoBits.an_empty_array ms class length) = grind (arith, nat_tests, has_number (codes "length") ms 0, class, length)
 no_bits_found d (HasNoBits.an_array_of_such ms element class there such) = grind (arith, nat_tests, element_bits ms, class, there, no_bits_found element such)
 
-shape_judged : (place : Place) (ms : Members) → IsJudged (shape_of place ms) (IsNoShapeAt place ms)
+pub shape_judged : (place : Place) (ms : Members) → IsJudged (shape_of place ms) (IsNoShapeAt place ms)
 unfolding shape_of
 shape_judged places.MagicFeature ms =
     test_judged (IsNoShapeAt places.MagicFeature ms) (is_number (natural_in (codes "size") ms) 32) (here OutOfRange) (λ fails. IsNoShapeAt.no_magic_number refl (λ has. false≢true (sym fails ∙ (has_number (codes "size") ms 32).1 has)))
@@ -133,7 +133,7 @@ seen P Q see xs ys h to rest = All-append Q (map see xs) ys (All-map Q see xs (A
 
 -- ---- what is told is a flaw
 
-member_there : (all before rest : Members) (name : List ℕ) (d : Data) → Parts all before rest → HasMember name d rest → HasMember name d all
+pub member_there : (all before rest : Members) (name : List ℕ) (d : Data) → Parts all before rest → HasMember name d rest → HasMember name d all
 member_there all before rest name d (Parts.at_the_first) has = has
 member_there all before rest name d (Parts.behind b k e r parts) has = member_there all b (member k e r) name d parts (inr has)
 
@@ -196,7 +196,7 @@ mutual
 
 -- ---- where none is told there is none
 
-parts_of : (all before rest : Members) (name : List ℕ) (d : Data) → Parts all before rest → HasMember name d rest → (b : Members) × HasBehind b name d all
+pub parts_of : (all before rest : Members) (name : List ℕ) (d : Data) → Parts all before rest → HasMember name d rest → (b : Members) × HasBehind b name d all
 parts_of all before no_members name d parts has = absurd has
 parts_of all before (member n e rest) name d parts (inl (same, is)) = (before, (rest, subst (λ x. Parts all before (member x d rest)) (sym same) (subst (λ x. Parts all before (member n x rest)) (sym is) parts)))
 parts_of all before (member n e rest) name d parts (inr has) = parts_of all (member n e before) rest name d (Parts.behind before n e rest parts) has

@@ -158,7 +158,7 @@ value_told : (content : Content) (d : Data) → All (PassesLimitOf content d) (i
 value_told content d held = All-append (PassesLimitOf content d) (told_by (within_limit (fits content d))) _ (limited (PassesLimitOf content d) (fits content d) (λ fails. PassesLimitOf.too_large ((by_fails content d).0 fails))) held
 
 -- nothing is asked of what is unknown
-unknown_fits : (d : Data) → content_limits contents.Anything d ≡ []
+pub unknown_fits : (d : Data) → content_limits contents.Anything d ≡ []
 unfolding fits
 unknown_fits (object ms) = refl
 unknown_fits _ = refl

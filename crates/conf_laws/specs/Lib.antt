@@ -3,3 +3,4 @@ pub mod Around
 pub mod ValueFlaws
 pub mod TableFlaws
 pub mod TableLimits
+pub mod WalkOrder

@@ -1,9 +1,10 @@
 //! A resolved configuration whose objects have no flaw says something, which the rules allow where it passes no limit; and what a
 //! walk over its objects tells of is what the table calls a flaw.
-ghost use Rattle.std.specs.Prelude.{◌≡◌, ℕ, pos, true, List, [], Contains, Option, Some, IsSome, codes};
+ghost use Rattle.std.specs.Prelude.{◌≡◌, ℕ, pos, true, List, [], Contains, Option, Some, IsSome, Err, codes};
 ghost use Rattle.serde_json.specs.Data.{Data, Members};
 ghost use Rattle.conf_tree.specs.Flaw.{Flaw};
 ghost use Rattle.conf_tree.specs.Order.{Ascends};
+ghost use Rattle.conf_tree.specs.Walk.{refusal};
 ghost use Rattle.conf_table.specs.declared.place.Place.TheVariants.{Root};
 ghost use Rattle.conf_table.specs.declared.row.Content.TheVariants.{At};
 ghost use Rattle.conf_judge.specs.Flaws.{configuration_flaws};
@@ -18,6 +19,7 @@ ghost use Rattle.ctf_types.specs.AllowedConfig.{IsConfig};
 ghost use Rattle.conf_laws.specs.Rules.{KeepsRules};
 ghost use Rattle.conf_laws.specs.TableFlaws.{IsFlawOf};
 ghost use Rattle.conf_laws.specs.TableLimits.{PassesLimitOf};
+ghost use Rattle.conf_laws.specs.WalkOrder.{IsFirstOf, IsFirstLimitOf};
 
 /// What has no flaw says something.
 #[tactic(auto, using(crate::proofs::Traces::tree_said))]
@@ -59,4 +61,18 @@ pub fn each_limit_is_passed()
 #[tactic(auto, using(crate::proofs::TableLimitLaws::none_passed))]
 pub fn no_limit_is_passed()
     ensures { (d : Data) (flaw : Flaw) → configuration_limits d ≡ [] → ¬ PassesLimitOf (At Root) d flaw }
+{}
+
+/// The flaw that a walk over the objects answers is one by the table, and stands before each other one in the order of the walk,
+/// where the names of each object are in byte order. Two flaws at one turn of the walk are in no order.
+#[tactic(auto, using(crate::proofs::FirstFlawLaws::first_found))]
+pub fn first_flaw_is_first()
+    ensures { (d : Data) (flaw : Flaw) → Ascends d → refusal (configuration_flaws d) ≡ Err flaw → IsFirstOf d flaw }
+{}
+
+/// The limit that a walk over the objects answers is one that the configuration passes by the table, and stands before each other
+/// one in the order of the walk, where the names of each object are in byte order.
+#[tactic(auto, using(crate::proofs::FirstLimitLaws::first_limit_found))]
+pub fn first_limit_is_first()
+    ensures { (d : Data) (flaw : Flaw) → Ascends d → refusal (configuration_limits d) ≡ Err flaw → IsFirstLimitOf d flaw }
 {}

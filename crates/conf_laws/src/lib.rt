@@ -4,6 +4,7 @@
 mod law;
 
 pub use law::{
-    alignments_are_kept, each_flaw_is_one, each_limit_is_passed, no_flaw_is_left,
-    no_limit_is_passed, sound_drafts_are_allowed, sound_trees_say_something,
+    alignments_are_kept, each_flaw_is_one, each_limit_is_passed, first_flaw_is_first,
+    first_limit_is_first, no_flaw_is_left, no_limit_is_passed, sound_drafts_are_allowed,
+    sound_trees_say_something,
 };
