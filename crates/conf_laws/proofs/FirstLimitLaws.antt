@@ -1,6 +1,6 @@
 -- The limit that a walk over a configuration answers is the first by the table: it stands before each other one that the configuration
 -- passes.
-use Rattle.std.proofs.Common.{◌≡◌, ◌⊎◌, ◌↔◌, ◌+◌, ◌≤◌, ℕ, zero, suc, Bool, true, false, List, [], ◌∷◌, ◌++◌, map, Option, Some, None, unwrap_or, Err, inl, inr, refl, sym, ap, subst, arith}
+use Rattle.std.proofs.Common.{◌≡◌, ◌⊎◌, ◌↔◌, ◌+◌, ◌≤◌, ℕ, zero, suc, Bool, true, false, List, [], ◌∷◌, ◌++◌, map, Option, Some, None, unwrap_or, Err, inl, inr, refl, sym, ap, subst, ◌∙◌, arith}
 use Rattle.conf_laws.specs.WalkOrder.{Turn, its_label, by_itself, what_it_holds, WayBefore, way_to_limit, IsFirstLimitOf}
 use Rattle.conf_laws.proofs.Agreement.{IsFrom, from_start, from_next, item_here}
 use Rattle.conf_laws.proofs.Readings.{by_found}
@@ -173,12 +173,29 @@ mutual
 
 -- ---- a whole configuration
 
+-- the limit to which a way leads
+abbrev told_at : List Turn → Flaw
+told_at (what_it_holds part ∷ way) = within part (told_at way)
+told_at _ = here Limit
+
+limit_by_way : (content : Content) (d : Data) (f : Flaw) (passed : PassesLimitOf content d f) → f ≡ told_at (way_to_limit passed)
+limit_by_way content d f (PassesLimitOf.too_large passed) = refl
+limit_by_way content d f (PassesLimitOf.long_label label v entries has is labels long) = refl
+limit_by_way content d f (PassesLimitOf.in_property name v inner g has is passed) = ap (within (key name)) (limit_by_way inner v g passed)
+limit_by_way content d f (PassesLimitOf.in_item {place = place} i v g is passed) = ap (within (index i)) (limit_by_way (item_content place) v g passed)
+
 first_of : (d : Data) (limits : List Flaw) (flaw : Flaw) → Leads limits (ContentAt d (At places.Root)) → refusal limits ≡ Err flaw → IsFirstLimitOf d flaw
 first_of d [] flaw h e = absurd cc
 first_of d (g ∷ rest) flaw (p, stands, first) e =
     let same : g ≡ flaw = cc in
     let (told, way) : LimitAt (At places.Root) d p g = elim stands [ inl large ↦ large_is d (At places.Root) p g large | inr inner ↦ inner_is d (At places.Root) p g inner ] in
-    let is : IsFirstLimitOf d g = (told, λ other passed. subst (λ w. (w ≡ way_to_limit passed) ⊎ WayBefore w (way_to_limit passed)) (sym way) (first (way_to_limit passed) other (stands_at (At places.Root) d other passed))) in
+    let is : IsFirstLimitOf d g = (
+      told,
+      λ other passed. elim (first (way_to_limit passed) other (stands_at (At places.Root) d other passed)) [
+        | inl alike ↦ inl (limit_by_way (At places.Root) d g told ∙ ap told_at (way ∙ alike) ∙ sym (limit_by_way (At places.Root) d other passed))
+        | inr less ↦ inr (subst (λ w. WayBefore w (way_to_limit passed)) (sym way) less)
+      ],
+    ) in
     subst (IsFirstLimitOf d) same is
 
 pub first_limit_found : (d : Data) (flaw : Flaw) → Ascends d → refusal (configuration_limits d) ≡ Err flaw → IsFirstLimitOf d flaw

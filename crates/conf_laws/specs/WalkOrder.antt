@@ -96,7 +96,6 @@ way_to_limit (PassesLimitOf.in_item i d flaw is passed) = what_it_holds (index i
 abbrev pub LimitBefore : {content : Content} {d : Data} {one other : Flaw} → PassesLimitOf content d one → PassesLimitOf content d other → Type 0
 LimitBefore one other = WayBefore (way_to_limit one) (way_to_limit other)
 
--- a limit that a whole configuration passes by the table, and that stands before each other one that it passes, but where both are at one
--- turn
+-- a limit that a whole configuration passes by the table, and that stands before each other one that it passes
 abbrev pub IsFirstLimitOf : Data → Flaw → Type 0
-IsFirstLimitOf d flaw = (first : PassesLimitOf (At Root) d flaw) × ((other : Flaw) (passed : PassesLimitOf (At Root) d other) → (way_to_limit first ≡ way_to_limit passed) ⊎ LimitBefore first passed)
+IsFirstLimitOf d flaw = (first : PassesLimitOf (At Root) d flaw) × ((other : Flaw) (passed : PassesLimitOf (At Root) d other) → (flaw ≡ other) ⊎ LimitBefore first passed)
