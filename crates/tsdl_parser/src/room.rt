@@ -5,8 +5,9 @@ ghost use Rattle.std.specs.Prelude.{◌<◌};
 use crate::repetition::Start;
 use tsdl_grammar::{Atoms, Mark, TokenKind, first_token};
 
-/// How many items begin here, and no more than the rest of the text has bytes for. What stands in the text behind the
-/// atoms counts too, so that each reading of a text takes the memory that the one before it gave back.
+/// How many items begin here, and no more than the rest of the text has bytes for, the last one of which may lack some.
+/// What stands in the text behind the atoms counts too, so that each reading of a text takes the memory that the one before
+/// it gave back.
 pub(crate) fn room_for(start: Start, atoms: Atoms<'_>) -> usize {
     let Some(first) = atoms.front else {
         return 0;
@@ -22,7 +23,9 @@ pub(crate) fn room_for(start: Start, atoms: Atoms<'_>) -> usize {
         rest = behind;
     }
     let bytes = atoms.text.len().saturating_add(first.bytes.len());
-    tally.count.min(bytes / least_bytes(start))
+    tally
+        .count
+        .min((bytes / least_bytes(start)).saturating_add(1))
 }
 
 /// How many bytes of text an item takes at least: `.a`, `[1]`, `,a=1`, `a=1;`, `env{};`.
