@@ -1,5 +1,5 @@
 -- What is said of a value whose names are all resolved is said of it too where more aliases are resolved.
-use Rattle.std.proofs.Common.{if◌then◌else◌, ◌||◌, ◌≡◌, ◌&&◌, ◌++◌, ℕ, suc, List, Option, Some, None, is_some, Bool, true, false, not, refl, ap, ◌∙◌, subst, ◌⊎◌, inl, inr, ◌↔◌, [], ◌∷◌, Result, Ok, Err, nat_lt, true≢false, sym, arith}
+use Rattle.std.proofs.Common.{if◌then◌else◌, ◌≡◌, ◌&&◌, ◌++◌, ℕ, suc, List, Option, Some, None, is_some, Bool, true, false, not, refl, ap, ◌∙◌, subst, ◌⊎◌, inl, inr, ◌↔◌, [], ◌∷◌, Result, Ok, Err, nat_lt, true≢false, sym, arith}
 use Rattle.std.proofs.lemmas.Bool.{and_parts, cases_Bool, or_cases, or_left, ltb-false}
 use Rattle.serde_json.specs.{Data.{Data, string, array, object, Items, no_items, item, Members, no_members, member, depth}, Find.{get, get_member}}
 use Rattle.conf_tree.specs.{Flaw.{key, index, within, Flaw, here}, declared.fault_kind.FaultKind.FaultKind}

@@ -1,5 +1,5 @@
 -- Where nothing is wrong with a configuration, each field type in it fits by itself.
-use Rattle.std.proofs.Common.{◌≡◌, ◌⊎◌, inl, inr, ◌&&◌, ◌||◌, ℕ, zero, suc, Bool, true, false, not, true≢false, List, [], ◌∷◌, Some, None, is_some, refl, sym, subst, ap, ◌∙◌, arith}
+use Rattle.std.proofs.Common.{◌≡◌, inl, inr, ◌&&◌, ◌||◌, ℕ, zero, suc, Bool, true, false, not, true≢false, List, [], ◌∷◌, Some, None, is_some, refl, sym, subst, ap, ◌∙◌, arith}
 use Rattle.std.proofs.lemmas.{Bool.{cases_Bool, and_parts, not-true}, Option.same_Some}
 use Rattle.serde_json.specs.{Data.{Data, array, object, Items, no_items, item, Members, no_members, member}, Find.{get_item, get_member}}
 use Rattle.conf_tree.specs.{Flaw.{Place as Step, key, index}, Order.{Ascends, ItemsAscend}, Walk.HasMember}

@@ -1,5 +1,5 @@
 -- A property whose value is written anew.
-use Rattle.std.proofs.Common.{◌≡◌, ℕ, Some, None, List, [], ◌∷◌, string_cmp, string_bytes, nat_cmp, refl, sym, ap, ◌∙◌, ◌+◌, ◌≤◌, ◌&&◌, ◌||◌, ◌++◌, ◌⊎◌, inl, inr, suc, map, Option, is_some, Bool, true, false, not, true≢false, bytes_eq, if◌then◌else◌, subst, arith, rules}
+use Rattle.std.proofs.Common.{◌≡◌, ℕ, Some, None, List, [], ◌∷◌, string_cmp, string_bytes, nat_cmp, refl, sym, ap, ◌∙◌, ◌+◌, ◌≤◌, ◌&&◌, ◌||◌, ◌⊎◌, inl, inr, suc, map, Option, is_some, Bool, true, false, not, true≢false, bytes_eq, if◌then◌else◌, subst, arith, rules}
 use Rattle.std.proofs.{lemmas.Bool.{cases_Bool, or_left}, lemmas.Slice.Eq.bytes_eq-Decides}
 use Rattle.std.specs.{BTreeMap.is_at, Cmp.Lexicographic.slice_cmp, List.Sorted.IsStrictlySortedBy, Map.{keys_of, set_value}}
 use Rattle.serde_json.specs.{Data.{Data, member, put, null, Members, no_members}, View.{view, members_view}}

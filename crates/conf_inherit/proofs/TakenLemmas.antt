@@ -1,5 +1,5 @@
 -- The aliases of a configuration: that each was resolved as it is laid, and is sound.
-use Rattle.std.proofs.Common.{arith, string_bytes, ◌≡◌, ◌++◌, ◌&&◌, ℕ, List, [], map, Option, Some, None, Result, Ok, Err, is_some, true, false, true≢false, refl, sym, ap, ◌∙◌, subst, inl, inr, if◌then◌else◌, ◌∷◌, option_and_then, ◌⊎◌, suc, ◌≤◌}
+use Rattle.std.proofs.Common.{arith, string_bytes, ◌≡◌, ◌++◌, ◌&&◌, ℕ, List, [], map, Option, Some, None, Result, Ok, Err, is_some, true, false, true≢false, refl, sym, ap, ◌∙◌, subst, inl, inr, ◌∷◌, option_and_then, ◌⊎◌, suc, ◌≤◌}
 use Rattle.std.proofs.{lemmas.Bool.{cases_Bool, or_left}, lemmas.Slice.Eq.{bytes_eq-Decides}, lemmas.Map.Text.{is_eq-slice_cmp}}
 use Rattle.std.proofs.lemmas.Result.{err_from_is_err_and}
 use Rattle.std.specs.{Prelude.{⊤}, Str.{bytes_eq}, Result.{IsErrAnd}}
