@@ -5,7 +5,7 @@ use Rattle.std.proofs.Common.{◌≡◌, ℕ, ◌||◌, ◌&&◌, true, List, le
 use Rattle.conf_laws.proofs.Numbers.{range_read, some_size, natural_is_in, alignment_or, needed_natural}
 use Rattle.conf_laws.proofs.Readings.{Says, proved_says, under_no_test, all_joined, same_natural, optional_found, by_found, by_test}
 use Rattle.conf_laws.proofs.Sound.{object_read, HasRow, RowsSound, ContentSound, object_sound, content_sound, first_item, first_entry, held_at, needed_sound, optional_sound, rows_sound, IsWithin, AreWithin, object_within, entry_within, optional_within, all_within, fitting_parts, flaws_in, names_of, sorted_names, names_counted}
-use Rattle.conf_laws.proofs.Words.{IsRange, is_alignment, rows_of, Needed, entries_of, Place, At, WholeOrText, Whole, Text, Content, member_flaws, item_flaws, inside, behind, itself_of, form_of, Known, with_taken, key_fits, ranges_fit, key_of, key_by, names_beside, with_names, range_of, is_inside, inside_of, numbers_in, item_content, leaf_of, whole_or_text, fits, AllAbove, IsInOrder, both_read, is_passed, name_of, is_reserved, plain_name_of, is_printable, Members, Data, array, Items, no_items, item, no_members, member, object, items_len, optional, as_natural, string, members_len, nat_tests, and_parts, or_parts, leb-true, nat_list_cmp_total, tied_itself, All-from_recursion, All-weaker, slice_cmp, list_any, AllByRecursion, bytes_eq, length-map, low, high, ranges_in, labels_in, enumeration, integer, size_of, object_at, properties, LabelsInOrder, lowest, highest, IsRangeOf, IsEnumeration, unused_keywords, used_keywords, IsConfigName, IsPlainName, IsConfigText, IntType, Mapping, clock_type, clocks_in, clock_types, entry_value, entries_in, environment, natural, word, InByteOrder, IsEnvironmentValue, IsClockType, ClockType, EnvironmentEntry, integer_made as made, integer_align as align_of, default_align, counted_ranges, place_of_properties, is_position, own_place}
+use Rattle.conf_laws.proofs.Words.{IsRange, is_alignment, number_or_default, presence_under, rows_of, Needed, entries_of, Place, At, WholeOrText, Whole, Text, Content, member_flaws, item_flaws, inside, behind, itself_of, form_of, Known, with_taken, key_fits, ranges_fit, key_of, key_by, names_beside, with_names, range_of, is_inside, inside_of, numbers_in, item_content, leaf_of, whole_or_text, fits, AllAbove, IsInOrder, both_read, is_passed, name_of, is_reserved, plain_name_of, is_printable, Members, Data, array, Items, no_items, item, no_members, member, object, items_len, optional, as_natural, string, members_len, nat_tests, and_parts, or_parts, leb-true, nat_list_cmp_total, tied_itself, All-from_recursion, All-weaker, slice_cmp, list_any, AllByRecursion, bytes_eq, length-map, low, high, ranges_in, labels_in, enumeration, integer, size_of, object_at, properties, LabelsInOrder, lowest, highest, IsRangeOf, IsEnumeration, unused_keywords, used_keywords, IsConfigName, IsPlainName, IsConfigText, IntType, Mapping, clock_type, clocks_in, clock_types, entry_value, entries_in, environment, natural, word, InByteOrder, IsEnvironmentValue, IsClockType, ClockType, EnvironmentEntry, integer_made as made, integer_align as align_of, default_align, counted_ranges, place_of_properties, is_position, own_place}
 use Rattle.conf_laws.proofs.Words.places
 
 pub config_name : (name : List ℕ) → name_of name ≡ Ok tt → IsConfigName name
@@ -237,8 +237,8 @@ description_allowed k ms s f h e =
     let there : optional (codes "description") ms ≡ Some (string s) = grind (arith, e) in
     config_text s (is_passed _ tt tt _ (optional_sound k places.ClockType (codes "description") (Text 4096) ms (string s) (refl, refl) f there).value.itself).0 (optional_within places.ClockType (codes "description") (Text 4096) (refl, refl) ms (string s) h there).fitting
 
-frequency_positive : (k : Known) (ms : Members) → member_flaws k places.ClockType ms ≡ [] → 0 < unwrap_or (natural (codes "frequency") ms) 1000000000
-unfolding itself_of leaf_of natural rows_of
+frequency_positive : (k : Known) (ms : Members) → member_flaws k places.ClockType ms ≡ [] → 0 < number_or_default places.ClockType (codes "frequency") ms
+unfolding itself_of leaf_of natural presence_under rows_of
 frequency_positive k ms f =
     by_found (λ (o : Option Data). 0 < unwrap_or (option_and_then as_natural o) 1000000000) (optional (codes "frequency") ms) (λ e. omega arith)
     (λ d is. grind (arith, natural_is_in 1 18446744073709551615 d, (optional_sound k places.ClockType (codes "frequency") (Whole (pos 1) (pos 18446744073709551615)) ms d (refl, refl) f is).value.itself))

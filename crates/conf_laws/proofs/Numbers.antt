@@ -3,7 +3,8 @@
 use Rattle.std.proofs.Common.{◌≡◌, ◌≤◌, ℕ, ℤ, pos, negsuc, true, false, List, Some, Ok, nat_le, arith, refl, ap, subst, ◌∙◌, ◌<◌, Bool, int_le, codes, option_and_then, unwrap_or}
 use Rattle.conf_laws.proofs.Readings.{optional_found}
 use Rattle.conf_laws.proofs.Sound.{HasRow, RowsSound, needed_sound}
-use Rattle.conf_laws.proofs.Words.{IsWhole, IsRange, Place, Whole, Needed, is_null, itself_of, Known, leaf_of, whole_from, is_power_of_two, divides, numbers_of, end_of, pair_of, single_of, range_of, index, whole_of, at, both_read, read_there, ok_same, as_natural, Data, Members, array, Items, no_items, item, nat_tests, is_alignment, alignment, natural, lowest, highest, integer_align, default_align, size_of, align_of}
+use Rattle.conf_laws.proofs.Words.{IsWhole, IsRange, Place, Whole, Needed, is_null, itself_of, Known, leaf_of, whole_from, is_power_of_two, divides, numbers_of, end_of, pair_of, single_of, range_of, index, whole_of, at, both_read, read_there, ok_same, as_natural, Data, Members, array, Items, no_items, item, nat_tests, is_alignment, alignment, natural, lowest, highest, integer_align, default_align, default_number, size_of, align_of}
+use Rattle.conf_laws.proofs.Words.places
 
 -- a whole number that was read, and that it is between its bounds
 pub whole_read : (low high : ℤ) (d : Data) (z : ℤ) → whole_of low high d ≡ Ok z → IsWhole d z × (int_le low z ≡ true) × (int_le z high ≡ true)
@@ -94,4 +95,4 @@ module _ (ms : Members) (n : ℕ) (power : is_power_of_two (pos n) ≡ true) (fi
 
   pub structure_kept : natural (codes "minimum-alignment") ms ≡ Some n → align_of ms ≡ n
   unfolding align_of
-  structure_kept is = ap (λ o. unwrap_or o 1) (kept (codes "minimum-alignment") is)
+  structure_kept is = ap (λ o. unwrap_or o (default_number places.Structure (codes "minimum-alignment"))) (kept (codes "minimum-alignment") is)

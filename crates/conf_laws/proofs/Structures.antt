@@ -7,7 +7,7 @@ use Rattle.conf_laws.proofs.AllowedMaps.{plain_name, integer_says, enumeration_s
 use Rattle.conf_laws.proofs.Numbers.{alignment_or, needed_natural}
 use Rattle.conf_laws.proofs.Readings.{Says, proved_says, element_is, all_joined, under_no_test, optional_found, some_there, by_found, by_test, element_bits, in_array, by_element, same_natural}
 use Rattle.conf_laws.proofs.Sound.{HasRow, RowsSound, ContentSound, ObjectSound, object_sound, needed_sound, type_sound, class_place, object_at, content_sound, first_item, rows_sound, first_entry, optional_sound, IsWithin, AreWithin, AreItemsWithin, object_within, property_within, optional_within, entry_within, is_within, first_item_limits, fitting_parts, TypeSound}
-use Rattle.conf_laws.proofs.Words.{false_from_ne_true, nat_tests, chain_of, and_parts, is_alignment, rows_of, Presence, admits_class, is_dynamic_array, Place, At, entries_of, at_most, itself_of, form_of, Known, inside, is_position, inner_flaws, item_flaws, member_flaws, nothing, with_taken, take, is_taken, key_of, key_by, free_of, is_dynamic, class_of, class_of_member, elements, fits, arrays_fit, is_outermost, shape_of, with_names, names_beside, own_place, place_of_properties, item_content, Members, Data, object, get_member, optional, is_passed, items_len, both_read, plain_name_of, Items, no_items, item, no_members, member, array, as_array, as_object, false≢true, or_parts, All-push, All-nil, All-from_recursion, map-append, bytes_eq-Decides, IsDistinct, option_map_or, AllByRecursion, list_any, bytes_eq, field_type, element, object_at as object_named, list as list_in, member_type, member_said as member_of, behind_done, members_behind, made, align_for, listed, align_of, structure_of, structure, extra_members, names_in, own_names, IsPlainName, IsConfigMember, AreConfigMembers, IsConfigStruct, StructType, length_name, shown_members, Auto, AtMember, Plain, Dyn, MemberType, is_class, any_object, at_least_one, times, natural_in, is_static_array, has_bits, length_of, of_class, natural, IsNest, elements_of, IsConfigLeaf, Int, Enum, Str, Static, FieldType}
+use Rattle.conf_laws.proofs.Words.{false_from_ne_true, nat_tests, chain_of, and_parts, default_number, is_alignment, presence_under, rows_of, Presence, admits_class, is_dynamic_array, Place, At, entries_of, at_most, itself_of, form_of, Known, inside, is_position, inner_flaws, item_flaws, member_flaws, nothing, with_taken, take, is_taken, key_of, key_by, free_of, is_dynamic, class_of, class_of_member, elements, fits, arrays_fit, is_outermost, shape_of, with_names, names_beside, own_place, place_of_properties, item_content, Members, Data, object, get_member, optional, is_passed, items_len, both_read, plain_name_of, Items, no_items, item, no_members, member, array, as_array, as_object, false≢true, or_parts, All-push, All-nil, All-from_recursion, map-append, bytes_eq-Decides, IsDistinct, option_map_or, AllByRecursion, list_any, bytes_eq, field_type, element, object_at as object_named, list as list_in, member_type, member_said as member_of, behind_done, members_behind, made, align_for, listed, align_of, structure_of, structure, extra_members, names_in, own_names, IsPlainName, IsConfigMember, AreConfigMembers, IsConfigStruct, StructType, length_name, shown_members, Auto, AtMember, Plain, Dyn, MemberType, is_class, any_object, at_least_one, times, natural_in, is_static_array, has_bits, length_of, of_class, natural, IsNest, elements_of, IsConfigLeaf, Int, Enum, Str, Static, FieldType}
 use Rattle.conf_laws.proofs.Words.places
 
 -- its static arrays nest no deeper than these levels, and have n elements in all
@@ -364,10 +364,10 @@ struct_of : (members : List (List ℕ × MemberType)) (align : ℕ) (s : StructT
 struct_of members align s (all, least) h = record { members = subst (λ l. AreConfigMembers l) (sym all) h; empty = λ none. least ∙ ap (λ l. align_for l align) (sym all ∙ none) }
 
 object_says : (k : Known) (ms : Members) → RowsSound k places.Structure ms → Says (structure_of ms) (λ s. AreWithin places.Structure ms → IsConfigStruct s)
-unfolding structure_of align_of itself_of form_of item_content entries_of names_beside rows_of
+unfolding structure_of align_of itself_of form_of item_content entries_of names_beside presence_under rows_of
 object_says k ms h =
     let members = listed_says k places.Structure (codes "members") (refl, refl) ms (λ d. refl) refl (λ n. refl) h.flaws [] tt in
-    let s = made_says members.0 (align_for members.0 (align_of ms)) (aligned members.0 (align_of ms) (alignment_or (codes "minimum-alignment") 1 ms refl)) in
+    let s = made_says members.0 (align_for members.0 (align_of ms)) (aligned members.0 (align_of ms) (alignment_or (codes "minimum-alignment") (default_number places.Structure (codes "minimum-alignment")) ms refl)) in
     (s.0, ap (option_and_then (λ all. made all (align_for all (align_of ms)))) members.1 ∙ s.1, λ good. struct_of members.0 (align_of ms) s.0 s.2 (members.2.1 good))
 
 type_structure : (k : Known) (d : Data) → ContentSound k (At places.StructureType) d → Says (option_map_or structure_of (as_object d) (made [] 1)) (λ s. IsWithin (At places.StructureType) d → IsConfigStruct s)

@@ -6,7 +6,7 @@ use Rattle.conf_laws.proofs.Numbers.{natural_is_in}
 use Rattle.conf_laws.proofs.Readings.{byte_object, Says, some_same, mapped_says, same_natural, class_told, only_unsigned, only_static, optional_found, by_found}
 use Rattle.conf_laws.proofs.Sound.{IsMapOf, TypeSound, type_sound, HasRow, RowsSound, needed_sound, optional_sound, ObjectSound, ContentSound, object_sound, content_sound, held_at, first_entry, needed_object, IsWithin, AreWithin, is_within, object_within, optional_within, entry_within, all_within, flaws_in, names_of, IsOwn}
 use Rattle.conf_laws.proofs.Structures.{structure_says, extras_says}
-use Rattle.conf_laws.proofs.Words.{nat_tests, is_passed, rows_of, Presence, admits_class, Place, At, Level, class_of, Known, inside, behind, nothing, natural_in, is_position, form_of, place_of_properties, own_place, shape_of, is_identifier, is_byte, is_unsigned_integer, is_number, is_eight, at_most, entries_of, key_of, key_by, itself_of, leaf_of, level, whole_from, member_flaws, configuration_flaws, configuration_limits, Ascends, All-map, IsStreamType, IsEventType, IsConfig, IsPlainName, ClockType, Draft, KeepsStreamRules, KeepsRules, RecordHasBits, optional, as_natural, Data, boolean, object, Members, no_members, members_len, get_member, member, as_object, and_parts, same_Some, append-nil, option_map_or, alignment_of, alignment, number_type, magic_type, byte_type, feature_of, feature, byte_of, identifier, size, mapped, timestamp, header, context, event_header, integer, size_of, default_align, integer_align as align_of, natural, object_at as object_named, properties, said_behind, word, OnlyIf, IsPlainUnsigned, ContextFeatures, EventFeatures, HeaderFeatures, IntType, environment, level_of, event_type, event_types, clock_of, stream_type, stream_types, clock_types, draft_with, draft_of_type, draft_of_trace, draft_of_root, draft_of, IsConfigName, Config, EnvironmentEntry, EventType, StreamType}
+use Rattle.conf_laws.proofs.Words.{nat_tests, is_passed, rows_of, Presence, admits_class, Place, At, Level, class_of, Known, inside, behind, nothing, natural_in, is_position, form_of, place_of_properties, own_place, shape_of, is_identifier, is_byte, is_unsigned_integer, is_number, is_eight, at_most, entries_of, key_of, key_by, itself_of, leaf_of, level, whole_from, member_flaws, configuration_flaws, configuration_limits, Ascends, All-map, IsStreamType, IsEventType, IsConfig, IsPlainName, ClockType, Draft, KeepsStreamRules, KeepsRules, RecordHasBits, optional, as_natural, Data, boolean, object, Members, no_members, members_len, get_member, member, as_object, and_parts, same_Some, append-nil, option_map_or, alignment_of, alignment, number_type, magic_type, byte_type, feature_of, feature, byte_of, identifier, is_on, of_trace, of_stream, size, mapped, timestamp, header, context, event_header, integer, size_of, default_align, integer_align as align_of, natural, object_at as object_named, properties, said_behind, word, OnlyIf, IsPlainUnsigned, ContextFeatures, EventFeatures, HeaderFeatures, IntType, environment, level_of, event_type, event_types, clock_of, stream_type, stream_types, clock_types, draft_with, draft_of_type, draft_of_trace, draft_of_root, draft_of, IsConfigName, Config, EnvironmentEntry, EventType, StreamType}
 use Rattle.conf_laws.proofs.Words.places
 
 -- ---- unsigned integers
@@ -46,26 +46,26 @@ module _ (k : Known) (around : Place) (ms : Members) (f : member_flaws k around 
   own_says P place name b t of row h each =
       value_says P of b t (optional name ms) h (λ own is. each own (object_sound k place own (optional_sound k around name (At place) ms (object own) row f is).value.inner))
 
-  integer_feature : (P : IntType → Type 0) (place : Place) (name : List ℕ) (b : Bool) (t : IntType) → IsUnsignedPlace place → {presence : Presence} → HasRow around name presence (At place) → P t
-      → ((own : Members) (x : IntType) → ObjectSound k place own → IsMade (size_of own) (align_of own) false x → P x) → Says (feature name b t ms) (λ x. OnlyIf x P)
+  integer_feature : (P : IntType → Type 0) (place : Place) (name : List ℕ) (given : _) (t : IntType) → IsUnsignedPlace place → {presence : Presence} → HasRow around name presence (At place) → P t
+      → ((own : Members) (x : IntType) → ObjectSound k place own → IsMade (size_of own) (align_of own) false x → P x) → Says (feature around name given t ms) (λ x. OnlyIf x P)
   unfolding feature
-  integer_feature P place name b t at row h each = own_says P place name b t (integer false) row h (λ own sound.
+  integer_feature P place name given t at row h each = own_says P place name (is_on around name given) t (integer false) row h (λ own sound.
       let t = type_sound k place own at.0 sound in
       let x = unsigned_says k place own t (at.1 t.class t.may_stand) in
       (x.0, x.1, each own x.0 sound x.2))
 
-  plain_feature : (place : Place) (name : List ℕ) (b : Bool) → IsUnsignedPlace place → {presence : Presence} → HasRow around name presence (At place) → Says (feature name b number_type ms) (λ x. OnlyIf x IsPlainUnsigned)
-  plain_feature place name b at row = integer_feature IsPlainUnsigned place name b number_type at row (refl, refl) (λ own x sound made. (made.sign_is, made.no_clock))
+  plain_feature : (place : Place) (name : List ℕ) (given : _) → IsUnsignedPlace place → {presence : Presence} → HasRow around name presence (At place) → Says (feature around name given number_type ms) (λ x. OnlyIf x IsPlainUnsigned)
+  plain_feature place name given at row = integer_feature IsPlainUnsigned place name given number_type at row (refl, refl) (λ own x sound made. (made.sign_is, made.no_clock))
 
-  size_says : (name : List ℕ) → {presence : Presence} → HasRow around name presence (At places.SizeFeature) → Says (size name ms) IsPlainUnsigned
+  size_says : (name : List ℕ) (given : _) → {presence : Presence} → HasRow around name presence (At places.SizeFeature) → Says (size around name given ms) IsPlainUnsigned
   unfolding size is_position admits_class
-  size_says name row =
-      mapped_says (λ x. OnlyIf x IsPlainUnsigned) IsPlainUnsigned (λ t. unwrap_or t number_type) (feature name true number_type ms) (λ o only. grind (arith, only)) (plain_feature places.SizeFeature name true (refl, only_unsigned) row)
+  size_says name given row =
+      mapped_says (λ x. OnlyIf x IsPlainUnsigned) IsPlainUnsigned (λ t. unwrap_or t number_type) (feature around name given number_type ms) (λ o only. grind (arith, only)) (plain_feature places.SizeFeature name given (refl, only_unsigned) row)
 
-  timestamp_says : (name : List ℕ) (clock : Option (List ℕ)) → {presence : Presence} → HasRow around name presence (At places.Feature) → Says (timestamp name clock ms) (λ x. OnlyIf x (IsOfClock clock))
+  timestamp_says : (name : List ℕ) (clock : Option (List ℕ)) → {presence : Presence} → HasRow around name presence (At places.Feature) → Says (timestamp around name clock ms) (λ x. OnlyIf x (IsOfClock clock))
   unfolding timestamp is_position admits_class
   timestamp_says name clock row =
-      mapped_says (λ x. OnlyIf x IsPlainUnsigned) (λ x. OnlyIf x (IsOfClock clock)) (option_map (mapped clock)) (feature name (is_some clock) number_type ms) (mapped_only clock) (plain_feature places.Feature name (is_some clock) (refl, only_unsigned) row)
+      mapped_says (λ x. OnlyIf x IsPlainUnsigned) (λ x. OnlyIf x (IsOfClock clock)) (option_map (mapped clock)) (feature around name (of_stream clock) number_type ms) (mapped_only clock) (plain_feature places.Feature name (of_stream clock) (refl, only_unsigned) row)
 
 -- ---- an identifier
 
@@ -110,9 +110,9 @@ pub record IsHeader (f : HeaderFeatures) : Type 0 where
 header_says : (k : Known) (has : Bool) (ms : Members) → member_flaws k places.TraceFeatures ms ≡ [] → Says (header has ms) IsHeader
 unfolding header shape_of identifier rows_of is_position admits_class
 header_says k has ms f =
-    let magic = integer_feature k places.TraceFeatures ms f IsMagic places.MagicFeature (codes "magic-field-type") true magic_type (refl, only_unsigned) (refl, refl) ((refl, refl), refl) (λ own x sound made. ((made.sign_is, made.no_clock), size_is own x 32 made (is_passed _ tt tt _ sound.shape).0)) in
-    let uuid = own_says k places.TraceFeatures ms f IsByte places.IdentifierFeature (codes "uuid-field-type") has byte_type byte_of (refl, refl) ((refl, refl), refl, refl) (bytes_say k) in
-    let stream_id = plain_feature k places.TraceFeatures ms f places.Feature (codes "data-stream-type-id-field-type") true (refl, only_unsigned) (refl, refl) in
+    let magic = integer_feature k places.TraceFeatures ms f IsMagic places.MagicFeature (codes "magic-field-type") (of_trace has) magic_type (refl, only_unsigned) (refl, refl) ((refl, refl), refl) (λ own x sound made. ((made.sign_is, made.no_clock), size_is own x 32 made (is_passed _ tt tt _ sound.shape).0)) in
+    let uuid = own_says k places.TraceFeatures ms f IsByte places.IdentifierFeature (codes "uuid-field-type") (is_on places.TraceFeatures (codes "uuid-field-type") (of_trace has)) byte_type byte_of (refl, refl) ((refl, refl), refl, refl) (bytes_say k) in
+    let stream_id = plain_feature k places.TraceFeatures ms f places.Feature (codes "data-stream-type-id-field-type") (of_trace has) (refl, only_unsigned) (refl, refl) in
     (record { magic = magic.0; uuid = uuid.0; stream_id = stream_id.0 }, rw (magic.1, uuid.1, stream_id.1) refl, record { magic = magic.2; uuid = uuid.2; stream_id = stream_id.2 })
 
 pub record IsContext (clock : Option (List ℕ)) (f : ContextFeatures) : Type 0 where
@@ -126,12 +126,12 @@ pub record IsContext (clock : Option (List ℕ)) (f : ContextFeatures) : Type 0 
 context_says : (k : Known) (clock : Option (List ℕ)) (ms : Members) → member_flaws k places.PacketFeatures ms ≡ [] → Says (context clock ms) (IsContext clock)
 unfolding context rows_of is_position admits_class
 context_says k clock ms f =
-    let total = size_says k places.PacketFeatures ms f (codes "total-size-field-type") (refl, refl) in
-    let content = size_says k places.PacketFeatures ms f (codes "content-size-field-type") (refl, refl) in
+    let total = size_says k places.PacketFeatures ms f (codes "total-size-field-type") (of_stream clock) (refl, refl) in
+    let content = size_says k places.PacketFeatures ms f (codes "content-size-field-type") (of_stream clock) (refl, refl) in
     let begin = timestamp_says k places.PacketFeatures ms f (codes "beginning-timestamp-field-type") clock (refl, refl) in
     let end = timestamp_says k places.PacketFeatures ms f (codes "end-timestamp-field-type") clock (refl, refl) in
-    let discarded = plain_feature k places.PacketFeatures ms f places.Feature (codes "discarded-event-records-counter-snapshot-field-type") true (refl, only_unsigned) (refl, refl) in
-    let sequence = plain_feature k places.PacketFeatures ms f places.Feature (codes "sequence-number-field-type") false (refl, only_unsigned) (refl, refl) in
+    let discarded = plain_feature k places.PacketFeatures ms f places.Feature (codes "discarded-event-records-counter-snapshot-field-type") (of_stream clock) (refl, only_unsigned) (refl, refl) in
+    let sequence = plain_feature k places.PacketFeatures ms f places.Feature (codes "sequence-number-field-type") (of_stream clock) (refl, only_unsigned) (refl, refl) in
     let said : ContextFeatures = record { packet_size = total.0; content_size = content.0; timestamp_begin = begin.0; timestamp_end = end.0; events_discarded = discarded.0; packet_seq_num = sequence.0 } in
     (said, rw (total.1, content.1, begin.1, end.1, discarded.1, sequence.1) refl, record { packet_size = total.2; content_size = content.2; timestamp_begin = begin.2; timestamp_end = end.2; events_discarded = discarded.2; packet_seq_num = sequence.2 })
 
@@ -142,7 +142,7 @@ pub record IsEventHeader (clock : Option (List ℕ)) (f : EventFeatures) : Type 
 event_header_says : (k : Known) (clock : Option (List ℕ)) (ms : Members) → member_flaws k places.EventRecordFeatures ms ≡ [] → Says (event_header clock ms) (IsEventHeader clock)
 unfolding event_header rows_of is_position admits_class
 event_header_says k clock ms f =
-    let id = plain_feature k places.EventRecordFeatures ms f places.Feature (codes "type-id-field-type") true (refl, only_unsigned) (refl, refl) in
+    let id = plain_feature k places.EventRecordFeatures ms f places.Feature (codes "type-id-field-type") (of_stream clock) (refl, only_unsigned) (refl, refl) in
     let timestamp = timestamp_says k places.EventRecordFeatures ms f (codes "timestamp-field-type") clock (refl, refl) in
     (record { id = id.0; timestamp = timestamp.0 }, rw (id.1, timestamp.1) refl, record { id = id.2; timestamp = timestamp.2 })
 

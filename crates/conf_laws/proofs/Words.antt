@@ -45,6 +45,7 @@ unfoldable pub use Rattle.conf_draft.specs.{Lookups.{list, natural, object as ob
 unfoldable pub use Rattle.conf_draft.specs.{Streams.{stream_type, stream_types}, Structures.{align_of, extra_members, listed, made, structure, structure_of}}
 unfoldable pub use Rattle.conf_draft.specs.Traces.{asks_number, draft_of_root, draft_of_trace, draft_of_type}
 pub use Rattle.conf_draft.specs.{Alignments.{alignment_of, is_alignment}, Clocks.clocks_in, Enumerations.{high, labels_in, low, ranges_in}}
+pub use Rattle.conf_draft.specs.Defaults.{default_number, is_on, number_or_default, of_stream, of_trace}
 pub use Rattle.conf_draft.specs.{Environments.{entries_in, entry_value}, Events.level_of, Features.{byte_type, feature_of, magic_type, number_type}}
 pub use Rattle.conf_draft.specs.{FieldTypes.{element, field_type}, Integers.default_align, Lookups.said_behind, Members.{member_of as member_said, members_behind}}
 pub use Rattle.conf_draft.specs.{Streams.clock_of, Structures.align_for, Traces.{draft_of, draft_with}, declared.draft.Draft.Draft}

@@ -82,7 +82,7 @@ in_order : Ascends small
 in_order = ((tt, tt), (((tt, tt), (((tt, tt), (tt, tt)), tt)), tt))
 
 keeps_rules : (draft : Draft) → draft_of None small ≡ Some draft → KeepsRules draft.config
-unfolding draft_of_root draft_of_trace draft_of_type object_at properties word header feature identifier stream_types environment clock_types asks_number
+unfolding draft_of_root draft_of_trace draft_of_type object_at properties word header feature identifier stream_types environment clock_types asks_number presence_under rows_of
 keeps_rules draft e =
     subst (λ (x : Draft). KeepsRules x.config) (same_Some _ draft e)
     (record { uuid_is_there = λ there. absurd cc; stream_id_holds = omega arith; streams = All-nil (KeepsStreamRules []) })
@@ -118,7 +118,7 @@ larger_no_limit = refl
 
 larger_says : IsSome (draft_of None larger)
 unfolding draft_of_root draft_of_trace draft_of_type object_at properties word list natural as_natural header feature identifier stream_types stream_type context size timestamp mapped event_header event_types event_type
-    structure structure_of listed extra_members made align_of behind_member member_type class_of of_class class_words integer integer_made size_of integer_align alignment base_of environment clock_types asks_number
+    structure structure_of listed extra_members made align_of behind_member member_type class_of of_class class_words integer integer_made size_of integer_align alignment base_of environment clock_types asks_number presence_under rows_of
 larger_says = refl
 
 -- an alignment that no field can have
