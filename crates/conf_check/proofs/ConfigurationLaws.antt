@@ -106,6 +106,10 @@ text_excluded text number c t r tree resolved resolves is flaw (inr (inr (s, q, 
     let equal : q ≡ r = one_look (aliases_of t) (subst (λ x. Resolves x q) same looked) resolves in
     configuration_excluded r number c flaw is (subst (λ x. IsNoConfiguration x number flaw) equal wrong)
 
+-- where the tree was resolved, no fault of inheritance holds of it
+pub configured_by_look_up : (text : List ℕ) (number : Option (List ℕ)) (t r : Data) (c : Config) → IsTreeOf text t → resolution t ≡ Ok r → Resolves t r → IsConfigurationOf r number c → ConfiguresByLookUp text number c
+configured_by_look_up text number t r c tree resolved resolves is = (t, r, tree, (λ flaw wrong. refusal_excluded text t r tree resolved flaw wrong), resolves, is)
+
 -- a text that has no tree is refused for what is wrong with it
 pub no_tree : (text : List ℕ) (fault : ConfFault) → IsMemory fault ⊎ IsFirstFlaw text (flaw_of fault) → IsMemory fault ⊎ ((d : Data) → Reads text d → FlawHolds d max_levels (flaw_of fault)) → IsMemory fault ⊎ IsNoTree text (flaw_of fault)
 no_tree text fault (inl memory) holds = inl memory

@@ -30,7 +30,9 @@ pub fn configure(alloc: Global, text: &[u8], number: Option<Uuid>) -> Result<Con
     // A text that is a configuration is refused for want of memory alone.
     ensures only { IfErr result (λ fault. RefusedForMemory text.now number fault) }
 
-    // What a text configures by look-up, where no fault of inheritance holds, is the answer.
+    // The answer is what the text configures by look-up, where no fault of inheritance holds; and with `exact` just that, want
+    // of memory aside.
+    ensures looked_up { IfOk result (λ c. ConfiguresByLookUp text.now number c) }
     ensures exact { (c : Configuration) → ConfiguresByLookUp text.now number c → GivesThat result c }
 {
     let tree = read_tree(alloc, text)?;

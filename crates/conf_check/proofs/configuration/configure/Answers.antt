@@ -1,7 +1,7 @@
 use Rattle.std.proofs.Common.{inl, inr}
 use Rattle.std.proofs.lemmas.Result.{IfOk-weaker, IfErr-weaker, err_from_is_err_and}
 use Rattle.serde_json.specs.View.{view}
-use Rattle.conf_check.proofs.ConfigurationLaws.{memory_or, text_excluded, no_tree, memory_alone, refused_for_memory, answered_by_look_up}
+use Rattle.conf_check.proofs.ConfigurationLaws.{memory_or, text_excluded, no_tree, memory_alone, refused_for_memory, configured_by_look_up, answered_by_look_up}
 use Rattle.conf_check.proofs.configuration.configure.Goals as goal
 
 pub returns-clause-only : goal.returns-clause-only
@@ -11,6 +11,10 @@ returns-clause-only c =
 pub returns-clause-exact : goal.returns-clause-exact
 returns-clause-exact c =
     λ x. answered_by_look_up c.args.text.now c.args.number (view c.in_ok-tree.tree.value) (view c.in_ok-resolved.resolved.value) x c.check.result c.in_ok-tree.ensures.tree c.in_ok-resolved.ensures.resolved c.check.ensures.rows c.check.ensures.only
+
+pub returns-clause-looked_up : goal.returns-clause-looked_up
+returns-clause-looked_up c =
+    IfOk-weaker c.check.result _ _ (λ x. configured_by_look_up c.args.text.now c.args.number (view c.in_ok-tree.tree.value) (view c.in_ok-resolved.resolved.value) x c.in_ok-tree.ensures.tree c.in_ok-resolved.ensures.first c.in_ok-resolved.ensures.resolved) c.check.ensures.rows
 
 pub returns-clause-faultless : goal.returns-clause-faultless
 returns-clause-faultless c =
