@@ -67,8 +67,8 @@ configuration_judged d number c h =
 -- ---- what is refused is the first flaw, and the tree has it
 
 pub configuration_refused : (d : Data) (number : Option (List ℕ)) (flaw : Flaw) → IsFirstFlawOf d number flaw → IsNoConfiguration d number flaw
-configuration_refused d number flaw (IsFirstFlawOf.of_an_object e) = inl (refused_told d flaw e)
-configuration_refused d number flaw (IsFirstFlawOf.of_the_whole draft none says e) = inr (draft, (λ f. none_left d none f), says, rule_refused d draft flaw e)
+configuration_refused d number flaw (IsFirstFlawOf.of_an_object (wrong, first)) = inl wrong
+configuration_refused d number flaw (IsFirstFlawOf.of_the_whole draft rows says e) = inr (draft, rows, says, rule_refused d draft flaw e)
 
 -- want of memory, or what follows from the other
 pub memory_or : {M A B : Type 0} → M ⊎ A → (A → B) → M ⊎ B

@@ -15,12 +15,8 @@ use Rattle.conf_draft.specs.declared.draft.Draft.{Draft}
 use Rattle.conf_draft.specs.Traces.{draft_of}
 use Rattle.conf_laws.specs.TableFlaws.{IsFlawOf}
 use Rattle.conf_laws.specs.TableLimits.{PassesLimitOf}
-use Rattle.conf_check.specs.Judgement.{IsFirstFlawOf}
+use Rattle.conf_check.specs.Judgement.{IsFirstFlawOf, KeepsAllRows}
 use Rattle.conf_check.specs.WholeFlaws.{BreaksRule}
-
--- every row of the objects' tables holds
-abbrev pub KeepsAllRows : Data → Type 0
-KeepsAllRows d = (flaw : Flaw) → ¬ IsFlawOf [] (At Root) d flaw
 
 -- c is what the resolved tree d says, where `number` is the identifier that is handed in: every row of its objects' tables
 -- holds, no rule over the whole is broken, and no limit is passed

@@ -2,7 +2,8 @@ use Rattle.std.proofs.Common.{◌⊎◌, refl}
 use Rattle.std.proofs.lemmas.Result.{err_from_is_err_and}
 use Rattle.serde_json.specs.View.{view}
 use Rattle.conf_judge.specs.Flaws.{configuration_flaws}
-use Rattle.conf_laws.proofs.TableFlawLaws.{none_refused}
+use Rattle.conf_laws.proofs.FirstFlawLaws.{first_found}
+use Rattle.conf_laws.proofs.TableFlawLaws.{none_left, none_refused}
 use Rattle.conf_laws.proofs.Traces.{tree_said}
 use Rattle.conf_tree.specs.Flaw.{flaw_of, IsMemory}
 use Rattle.conf_check.specs.Judgement.{IsJudgedTo, IsFirstFlawOf}
@@ -19,7 +20,7 @@ returns-in_err-check_objects c =
     let d = view c.args.tree.value in
     let fault = c.in_err-check_objects.field-0.0 in
     let p = err_from_is_err_and c.from_residual.result c.from_residual.ensures.1 in
-    let first : IsMemory fault ⊎ IsFirstFlawOf d c.args.number (flaw_of fault) = memory_or c.in_err-check_objects.ensures IsFirstFlawOf.of_an_object in
+    let first : IsMemory fault ⊎ IsFirstFlawOf d c.args.number (flaw_of fault) = memory_or c.in_err-check_objects.ensures (λ e. IsFirstFlawOf.of_an_object (first_found d (flaw_of fault) c.args.tree.ordered e)) in
     rw (p.1, p.2) (record { rows = tt; allowed = tt; first = first; refused = memory_or first (configuration_refused d c.args.number (flaw_of fault)); only = only_memory d c.args.number fault first })
 
 pub returns-in_err-whole : goal.returns-in_err-whole
@@ -28,7 +29,7 @@ returns-in_err-whole c =
     let fault = c.in_err-whole.field-0.0 in
     let p = err_from_is_err_and c.from_residual-in_err-whole.result c.from_residual-in_err-whole.ensures.1 in
     let none = none_refused (configuration_flaws d) c.in_ok-check_objects.ensures in
-    let first : IsMemory fault ⊎ IsFirstFlawOf d c.args.number (flaw_of fault) = memory_or c.in_err-whole.ensures (IsFirstFlawOf.of_the_whole c.in-Ok.draft none c.in-Ok.ensures) in
+    let first : IsMemory fault ⊎ IsFirstFlawOf d c.args.number (flaw_of fault) = memory_or c.in_err-whole.ensures (IsFirstFlawOf.of_the_whole c.in-Ok.draft (λ flaw. none_left d none flaw) c.in-Ok.ensures) in
     rw (p.1, p.2) (record { rows = tt; allowed = tt; first = first; refused = memory_or first (configuration_refused d c.args.number (flaw_of fault)); only = only_memory d c.args.number fault first })
 
 pub returns : goal.returns
