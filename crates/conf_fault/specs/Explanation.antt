@@ -53,9 +53,17 @@ name_words ReservedName = Some (codes "reserved word")
 name_words NameClash = Some (codes "name is taken")
 name_words _ = None
 
--- nothing, or a value
+-- a value or a name
+abbrev pub IsWritten : List ℕ → Type 0
+IsWritten words = (value : List ℕ) × (words ≡ cut value)
+
+-- the name of an alias, and the value that it stands for
+abbrev pub IsNamedValue : List ℕ → Type 0
+IsNamedValue words = (name : List ℕ) × (value : List ℕ) × IsWritten name × IsWritten value × (words ≡ name ++ codes ", which is " ++ value)
+
+-- nothing, a value, or an alias that does not fit
 abbrev pub IsValueWords : List ℕ → Type 0
-IsValueWords words = (words ≡ codes "missing") ⊎ ((value : List ℕ) × (words ≡ cut value))
+IsValueWords words = (words ≡ codes "missing") ⊎ (IsWritten words ⊎ IsNamedValue words)
 
 abbrev pub IsStanding : FaultKind → List ℕ → Type 0
 IsStanding kind words = MatchOption (name_words kind) (IsValueWords words) (λ said. words ≡ said)

@@ -173,6 +173,16 @@ fn range_words(name: &str, content: Option<Content>) -> Option<&'static str>
     }
 }
 
+/// Whether a fault is that of a label, and not of its ranges.
+pub(crate) fn is_of_label(found: &Found<'_>, fault: &ConfFault) -> bool {
+    found.content == Some(Content::At(Place::Ranges))
+        && match fault.kind {
+            FaultKind::OutOfRange => has_control(end_name(fault.path.as_slice())),
+            FaultKind::Limit => true,
+            _ => false,
+        }
+}
+
 /// Whether a text has a control character but newline and tab.
 fn has_control(text: &str) -> bool
     ensures { result ≡ list_any is_control text.now }

@@ -1,11 +1,12 @@
 //! The explanation of a fault: the line and the column, the path, what stands there, and what was expected.
 
 ghost use Rattle.std.specs.Prelude.{◌≡◌, ◌++◌, IfOk, OnOk, string_bytes};
-ghost use Rattle.conf_fault.specs.Explanation.{Adds, IsAliasWords, IsExplanation, IsPlaced, IsSaidOf, IsStanding, path_words, step_words};
+ghost use Rattle.conf_fault.specs.Explanation.{Adds, IsAliasWords, IsExplanation, IsNamedValue, IsPlaced, IsSaidOf, IsStanding, IsValueWords, IsWritten, path_words, step_words};
 ghost use Rattle.conf_fault.specs.Shown.{IsOneLine};
 
-use crate::by_kind::{kind_words, wanted_words};
+use crate::by_kind::{is_of_label, kind_words, wanted_words};
 use crate::found::Found;
+use crate::layers::Layer;
 use crate::line_column::{line_column, push_place};
 use crate::not_json::push_not_json;
 use crate::shown::{on_one_line, push_cut};
@@ -16,8 +17,8 @@ use std::alloc::{AllocError, Global};
 /// Explains the fault of a configuration's text in one line, without its end: `line 2, column 9: trace: 2: expected an object`.
 ///
 /// Lines and columns count from 1, columns in bytes. A value that stands in an alias or in a base is placed there, and the alias is named; what
-/// is missing is placed at its object. A value is shown as it is written, without the white space between its parts. Names and values are cut at 60
-/// characters.
+/// is missing is placed at its object. An alias that does not fit where it is used is placed there, and its name and its value are shown. A value is
+/// shown as it is written, without the white space between its parts. Names and values are cut at 60 characters.
 pub fn explain_fault(alloc: Global, text: &[u8], fault: &ConfFault) -> Result<String, AllocError>
     ensures explains { IfOk result (λ said. IsExplanation text.now fault.now (string_bytes said)) }
     ensures one_line { IfOk result (λ said. IsOneLine (string_bytes said)) }
@@ -41,12 +42,12 @@ fn push_placed(source: Source<'_>, said: &mut String, fault: &ConfFault) -> Resu
     ensures { OnOk result (Adds (IsPlaced source.entry.text.now fault.now) (string_bytes said.old) (string_bytes said.new)) }
 {
     let found = source.find(fault.path.as_slice())?;
-    let layer = found.layer();
-    let at = kind_words(fault.kind).0.map_or(layer.at, |_| layer.key);
+    let layer = found.used_name(fault.kind).unwrap_or(found.layer());
+    let at = place_at_fault(&found, layer, fault);
     push_place(source.alloc, said, line_column(source.text, at))?;
     push_path(source.alloc, said, fault.path.as_slice())?;
     push_alias(source, said, layer.alias)?;
-    push_standing(said, &found, fault.kind)?;
+    push_standing(said, &found, fault)?;
     said.push_str(": expected ")?;
     said.push_str(wanted_words(&found, fault)?.as_str())
 }
@@ -88,17 +89,58 @@ fn push_alias(source: Source<'_>, said: &mut String, alias: Option<usize>) -> Re
     said.push_str("`: ")
 }
 
-fn push_standing(said: &mut String, found: &Found<'_>, kind: FaultKind) -> Result<(), AllocError>
-    ensures { OnOk result (Adds (IsStanding kind) (string_bytes said.old) (string_bytes said.new)) }
+fn push_standing(said: &mut String, found: &Found<'_>, fault: &ConfFault) -> Result<(), AllocError>
+    ensures { OnOk result (Adds (IsStanding fault.now.kind) (string_bytes said.old) (string_bytes said.new)) }
 {
-    if let Some(words) = kind_words(kind).0 {
-        return said.push_str(words);
+    match kind_words(fault.kind).0 {
+        Some(words) => said.push_str(words),
+        None => push_value(said, found, fault),
     }
+}
+
+/// Adds what stands there: the value, a label that is at fault, or the name of an alias and what it is.
+fn push_value(said: &mut String, found: &Found<'_>, fault: &ConfFault) -> Result<(), AllocError>
+    ensures { OnOk result (Adds IsValueWords (string_bytes said.old) (string_bytes said.new)) }
+{
     if !found.is_there {
         return said.push_str("missing");
     }
-    match found.source.written(found.layer().at)? {
+    let layer = found.layer();
+    match found.used_name(fault.kind) {
+        Some(name) => push_named(said, found.source, name.at, layer.at),
+        None => push_written(said, found.source, place_at_fault(found, layer, fault)),
+    }
+}
+
+/// Adds the name of an alias, and the value that it stands for.
+fn push_named(
+    said: &mut String,
+    source: Source<'_>,
+    name: usize,
+    at: usize,
+) -> Result<(), AllocError>
+    ensures { OnOk result (Adds IsNamedValue (string_bytes said.old) (string_bytes said.new)) }
+{
+    push_written(said, source, name)?;
+    said.push_str(", which is ")?;
+    push_written(said, source, at)
+}
+
+/// Adds the value or the name that begins at a place, as it is written.
+fn push_written(said: &mut String, source: Source<'_>, at: usize) -> Result<(), AllocError>
+    ensures { OnOk result (Adds IsWritten (string_bytes said.old) (string_bytes said.new)) }
+{
+    match source.written(at)? {
         Some(value) => push_cut(said, value.as_str()),
         None => push_cut(said, "a value"),
+    }
+}
+
+/// Where a fault stands: at the name of the value where that is at fault, or else at the value.
+fn place_at_fault(found: &Found<'_>, layer: Layer, fault: &ConfFault) -> usize {
+    if kind_words(fault.kind).0.is_some() || is_of_label(found, fault) {
+        layer.key
+    } else {
+        layer.at
     }
 }

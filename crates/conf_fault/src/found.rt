@@ -3,7 +3,7 @@
 use crate::layers::{Layer, Layering, holds_field_type};
 use crate::source::Source;
 use conf_table::{Content, Place, class_place, content, entries};
-use conf_tree::Step;
+use conf_tree::{FaultKind, Step};
 use std::alloc::AllocError;
 
 /// How far a path leads in the text.
@@ -12,6 +12,8 @@ pub(crate) struct Found<'t> {
     pub source: Source<'t>,
     /// The value there, before what it is laid over.
     pub layers: Vec<Layer>,
+    /// The name of an alias that stands there itself, where the value is that of the alias.
+    pub name: Option<Layer>,
     /// What holds the value of the last step: a position of field types, or what it is.
     pub position: Place,
     /// The same, by the class of the field type.
@@ -26,6 +28,14 @@ impl<'t> Found<'t> {
     /// The nearest value there.
     pub(crate) fn layer(&self) -> Layer {
         self.layers.first().copied().unwrap_or_default()
+    }
+
+    /// The name of an alias that stands where the path ends, if a fault of this kind is of what the alias is used for, and not of what it holds.
+    pub(crate) fn used_name(&self, kind: FaultKind) -> Option<Layer> {
+        match kind {
+            FaultKind::NoSuchAlias => None,
+            _ => self.name,
+        }
     }
 
     /// Whether the members lists there have an entry of this name.
@@ -47,6 +57,7 @@ impl<'t> Source<'t> {
         let mut found = Found {
             source: *self,
             layers,
+            name: None,
             position: Place::Root,
             holder: Place::Root,
             content: Some(Content::At(Place::Root)),
@@ -79,12 +90,14 @@ impl<'t> Source<'t> {
             Step::Index(_) => entries(holder).map(|entries| entries.content),
         };
         let inner = self.inside(found.layers.as_slice(), holder, step, next)?;
+        let used = inner.first().copied();
         let place = told.map_or(Place::Ignored, Content::place);
         let layers = layering.followed(inner, place)?;
         found.position = position;
         found.holder = holder;
         found.content = told;
         found.is_there = !layers.is_empty();
+        found.name = used.filter(|name| layers.first().is_some_and(|layer| layer.at != name.at));
         if found.is_there {
             found.layers = layers;
         }

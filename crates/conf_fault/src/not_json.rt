@@ -82,14 +82,24 @@ fn first_character(bytes: &[u8]) -> Option<char>
     None
 }
 
-/// Whether a text begins, behind empty lines, with a comment, with `---` or `%YAML`, or with a name and a colon, as `trace:`.
+/// Whether a text begins, behind empty lines, with a comment, with `---` or `%YAML`, with a tag, or with a name and a colon, as `trace:` or `"trace":`.
 fn looks_like_yaml(text: &[u8]) -> bool {
     let text = text.trim_ascii_start();
-    let name = text.iter().take_while(|byte| is_of_a_name(**byte)).count();
     text.starts_with(b"#".as_slice())
         || text.starts_with(b"---".as_slice())
         || text.starts_with(b"%YAML".as_slice())
-        || name > 0 && text.get(name) == Some(&b':')
+        || text.starts_with(b"!".as_slice())
+        || begins_with_key(text)
+}
+
+/// Whether a text begins with a name, in quotes of one kind or in none, and a colon.
+fn begins_with_key(text: &[u8]) -> bool {
+    let quote = text.first().filter(|byte| matches!(**byte, b'"' | b'\''));
+    let start = usize::from(quote.is_some());
+    let name = &text[start..];
+    let length = name.iter().take_while(|byte| is_of_a_name(**byte)).count();
+    let end = length.saturating_add(start);
+    length > 0 && (quote.is_none() || name.get(length) == quote) && name.get(end) == Some(&b':')
 }
 
 fn is_of_a_name(byte: u8) -> bool {
