@@ -4,6 +4,7 @@
 mod around;
 mod form;
 mod judge;
+mod laws;
 mod leaf;
 mod limits;
 mod names;
@@ -13,4 +14,5 @@ mod presence;
 mod shape;
 
 pub use judge::check_objects;
+pub use laws::items_by_entries;
 pub use limits::check_limits;
