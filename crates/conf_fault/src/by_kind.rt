@@ -386,6 +386,7 @@ fn push_clash_hint(
 {
     if let [.., Step::Key(list), Step::Index(_), Step::Key(_)] = path
         && list.as_str() == "packet-context-field-type-extra-members"
+        && is_of_packets(name)
     {
         return said.push_str(
             "; a packet context has `packet_size`, `content_size`, `timestamp_begin`, `timestamp_end`, `events_discarded` and `packet_seq_num` itself, with its features on or off",
@@ -404,6 +405,19 @@ fn push_clash_hint(
     said.push_str("` takes `")?;
     push_cut(said, length.as_str())?;
     said.push_str("` too")
+}
+
+/// Whether a packet context has a member of this name itself, with its features on or off.
+fn is_of_packets(name: &str) -> bool {
+    matches!(
+        name,
+        "packet_size"
+            | "content_size"
+            | "timestamp_begin"
+            | "timestamp_end"
+            | "events_discarded"
+            | "packet_seq_num"
+    )
 }
 
 /// Whether the configuration has a property of barectf 2.
