@@ -13,7 +13,6 @@ pub mod Listing
 pub mod Numbers
 pub mod Opening
 pub mod PlaceLists
-pub mod Placing
 pub mod Reading
 pub mod Saying
 mod ScriptLaws
@@ -24,3 +23,4 @@ mod StreamLaws
 pub mod Telling
 pub mod Turns
 mod WorkedTrace
+pub mod NameOrders

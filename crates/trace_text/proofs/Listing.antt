@@ -20,6 +20,11 @@ item_more f xs i d h =
     sym (ap (flat_map f) (take_more xs i d h) ∙ flat_map-append f (take i xs) (get_or xs i d ∷ [])
     ∙ ap (λ (w : List ℕ). flat_map f (take i xs) ++ w) (append-nil (f (get_or xs i d))))
 
+-- what is said of a part of each item
+pub of_each : {A B : Type 0} (f : B → List ℕ) (g : A → B) (xs : List A) → flat_map (λ x. f (g x)) xs ≡ flat_map f (map g xs)
+of_each f g [] = refl
+of_each f g (x ∷ xs) = ap (λ (w : List ℕ). f (g x) ++ w) (of_each f g xs)
+
 -- all of the items
 pub each_all : {A : Type 0} (f : A → List ℕ) (xs : List A) (i : ℕ) → length xs ≤ i → flat_map f (take i xs) ≡ flat_map f xs
 each_all f xs i h = ap (flat_map f) (take_all i xs h)

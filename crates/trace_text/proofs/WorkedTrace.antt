@@ -1,6 +1,7 @@
 -- A worked trace: two records of one stream file with a clock, each with its line, and the line of the file.
 use Rattle.std.specs.Prelude.{◌≡◌, ℕ, negsuc, List, [], ◌∷◌, None, Some, false, true, codes, refl}
-use Rattle.std.proofs.Common.{lit<, lit≤}
+use Rattle.std.proofs.Common.{ap, ◌∙◌, ◌++◌, lit<, lit≤}
+use Rattle.std.specs.List.{flat_map}
 use Rattle.std.specs.Fmt.{digits}
 use Rattle.ctf_types.specs.declared.Base.TheVariants.{Dec}
 use Rattle.ctf_types.specs.declared.ByteOrder.TheVariants.{Big}
@@ -20,10 +21,11 @@ use Rattle.packet_reader.specs.declared.read_streams.ReadStream.{ReadStream}
 use Rattle.packet_reader.specs.SequenceGaps.{number_size, sequence_size}
 use Rattle.clock_merge.specs.declared.place.Place.{Place}
 use Rattle.trace_text.specs.PrintedNumbers.{label_in}
-use Rattle.trace_text.specs.PrintedStreams.{placed, first_placed, stream_line}
+use Rattle.trace_text.specs.PrintedStreams.{line_at, stream_line}
 use Rattle.trace_text.specs.PrintedTexts.{string_byte, name_byte}
 use Rattle.trace_text.specs.PrintedTrace.{place_line, lines}
 use Rattle.trace_text.specs.PrintedValues.{value_text, member_texts}
+use Rattle.trace_text.proofs.NameOrders.{one_name}
 
 -- ---- the metadata
 
@@ -78,6 +80,12 @@ pub second_line : place_line metadata (file ∷ []) (at 1) ≡ codes "clk:11 t0 
 unfolding place_line name_byte string_byte member_texts value_text digits
 second_line = refl
 
+-- those of the records, and behind them the line of the file
+said : flat_map (place_line metadata (file ∷ [])) (at 0 ∷ at 1 ∷ []) ++ flat_map (line_at metadata (file ∷ [])) (0 ∷ [])
+    ≡ codes "clk:10 t0 a fields{n=-2}\nclk:11 t0 b fields{s=\"ok\"}\nstream t0: packets 1, records 2, discarded 0, gaps 0, end Whole\n"
+unfolding place_line name_byte string_byte member_texts value_text label_in digits stream_line number_size sequence_size
+said = refl
+
 pub all_lines : lines metadata (file ∷ []) (at 0 ∷ at 1 ∷ []) ≡ codes "clk:10 t0 a fields{n=-2}\nclk:11 t0 b fields{s=\"ok\"}\nstream t0: packets 1, records 2, discarded 0, gaps 0, end Whole\n"
-unfolding place_line name_byte string_byte member_texts value_text label_in digits placed first_placed stream_line number_size sequence_size
-all_lines = refl
+all_lines =
+    ap (λ (order : List ℕ). flat_map (place_line metadata (file ∷ [])) (at 0 ∷ at 1 ∷ []) ++ flat_map (line_at metadata (file ∷ [])) order) (one_name (codes "t0")) ∙ said

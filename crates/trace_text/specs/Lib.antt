@@ -1,6 +1,7 @@
 pub mod ClosedFiles
 pub mod FileCounts
 pub mod FileTurns
+pub mod NameOrder
 pub mod Names
 pub mod OpenFiles
 pub mod PrintedFromReaders

@@ -15,7 +15,7 @@ use Rattle.clock_merge.specs.MergedOrder.{IsMerged}
 use Rattle.trace_stack.specs.declared.reading.ReadTrace.{ReadTrace}
 use Rattle.trace_text.specs.PrintedTexts.{name_text}
 use Rattle.trace_text.specs.PrintedValues.{structure_text}
-use Rattle.trace_text.specs.PrintedStreams.{name_order, line_at}
+use Rattle.trace_text.specs.PrintedStreams.{line_at, line_order}
 
 -- ---- a record's line
 
@@ -54,7 +54,7 @@ place_line m streams p = option_map_or (file_line m p) (slice_get streams p.stre
 
 -- the lines of the records at these places, and of the streams
 abbrev pub lines : Metadata → List ReadStream → List Place → List ℕ
-lines m streams places = flat_map (place_line m streams) places ++ flat_map (line_at m streams) (name_order streams)
+lines m streams places = flat_map (place_line m streams) places ++ flat_map (line_at m streams) (line_order streams)
 
 abbrev pub printed : ReadTrace → List ℕ
 printed t = lines t.metadata t.streams t.order.items

@@ -32,6 +32,7 @@ mod script_reading;
 mod script_stream;
 mod script_value;
 mod side_by_side;
+mod stream_counts;
 
 pub use names::names_fault;
 pub use printing::print_trace;

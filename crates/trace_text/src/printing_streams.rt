@@ -3,12 +3,13 @@
 ghost use Rattle.std.specs.Prelude.{◌≡◌, ◌++◌, codes};
 ghost use Rattle.std.specs.Fmt.{decimal};
 ghost use Rattle.trace_text.specs.PrintedPages.{Says};
-ghost use Rattle.trace_text.specs.PrintedStreams.{fault_word, end_text, record_count, last_discarded, stream_line};
+ghost use Rattle.trace_text.specs.PrintedStreams.{counted_line, end_text, fault_word, last_discarded, record_count, stream_line};
 
 use crate::printing_numbers::{say_count, say_optional_count};
 use crate::printing_page::{Page, say};
 use crate::printing_texts::say_name;
-use ctf_types::{Metadata, ReadPacket};
+use crate::stream_counts::StreamCounts;
+use ctf_types::{Metadata, ReadPacket, Text};
 use packet_reader::{PacketFault, ReadStream, StreamEnding, gaps};
 use std::io::Write;
 
@@ -22,18 +23,37 @@ pub(crate) fn say_stream<W: Write>(
     ensures { Says (W.contents writer.old) page.old (W.contents writer.new) page.new (stream_line metadata.now stream.now) }
 {
     let packets = stream.packets.as_slice();
+    let counts = StreamCounts {
+        packets: packets.len() as u64,
+        records: record_count(packets),
+        discarded: last_discarded(packets),
+        gaps: gaps(metadata, stream),
+    };
+    say_line(writer, page, &stream.name, counts, stream.end);
+}
+
+/// The line of a stream file of this name, of which this is told.
+pub(crate) fn say_line<W: Write>(
+    writer: &mut W,
+    page: &mut Page,
+    name: &Text,
+    counts: StreamCounts,
+    end: StreamEnding,
+)
+    ensures { Says (W.contents writer.old) page.old (W.contents writer.new) page.new (counted_line name.now counts end) }
+{
     say(writer, page, "stream ");
-    say_name(writer, page, &stream.name);
+    say_name(writer, page, name);
     say(writer, page, ": packets ");
-    say_count(writer, page, packets.len() as u128);
+    say_count(writer, page, u128::from(counts.packets));
     say(writer, page, ", records ");
-    say_count(writer, page, record_count(packets));
+    say_count(writer, page, counts.records);
     say(writer, page, ", discarded ");
-    say_optional_count(writer, page, last_discarded(packets));
+    say_optional_count(writer, page, counts.discarded);
     say(writer, page, ", gaps ");
-    say_optional_count(writer, page, gaps(metadata, stream));
+    say_optional_count(writer, page, counts.gaps);
     say(writer, page, ", end ");
-    say_end(writer, page, stream.end);
+    say_end(writer, page, end);
     say(writer, page, "\n");
 }
 
@@ -53,7 +73,7 @@ fn last_discarded(packets: &[ReadPacket]) -> Option<u64>
     packets.get(packets.len().saturating_sub(1))?.discarded
 }
 
-pub(crate) fn say_end<W: Write>(writer: &mut W, page: &mut Page, end: StreamEnding)
+fn say_end<W: Write>(writer: &mut W, page: &mut Page, end: StreamEnding)
     ensures { Says (W.contents writer.old) page.old (W.contents writer.new) page.new (end_text end) }
 {
     match end {

@@ -4,7 +4,7 @@ ghost use Rattle.std.specs.Prelude.{◌≡◌, Some};
 ghost use Rattle.trace_text.specs.declared.script_fault.ScriptFaultKind.TheVariants.{OutOfMemory};
 ghost use Rattle.trace_text.specs.{ScriptFaultWords.kind_words, ScriptReading.{of_entry as of_entry_of}};
 
-use std::alloc::AllocError;
+use std::alloc::{AllocError, AllocFailed};
 use std::error::Error;
 use std::fmt;
 
@@ -61,6 +61,14 @@ impl From<AllocError> for ScriptFaultKind {
     ghost from_gives = { λ _ e. e ≡ OutOfMemory };
 
     fn from(_error: AllocError) -> ScriptFaultKind {
+        ScriptFaultKind::OutOfMemory
+    }
+}
+
+impl<T: Drop> From<AllocFailed<T>> for ScriptFaultKind {
+    ghost from_gives = { λ _ e. e ≡ OutOfMemory };
+
+    fn from(_error: AllocFailed<T>) -> ScriptFaultKind {
         ScriptFaultKind::OutOfMemory
     }
 }

@@ -94,10 +94,7 @@ fn push_stream(
     ensures refused { IfErr result (λ kind. (kind ≡ OutOfMemory) ⊎ (entry_reading (stream_reading config.now) (view entry.now) ≡ Err kind)) }
 {
     let stream = read_stream_entry(alloc, config, entry)?;
-    match streams.push(stream) {
-        Ok(()) => Ok(()),
-        Err(_) => Err(ScriptFaultKind::OutOfMemory),
-    }
+    Ok(streams.push(stream)?)
 }
 
 fn read_events(
@@ -128,8 +125,5 @@ fn push_event(
     ensures refused { IfErr result (λ kind. (kind ≡ OutOfMemory) ⊎ (entry_reading (event_reading config.now streams.now) (view entry.now) ≡ Err kind)) }
 {
     let event = read_event_entry(alloc, config, streams, entry)?;
-    match events.push(event) {
-        Ok(()) => Ok(()),
-        Err(_) => Err(ScriptFaultKind::OutOfMemory),
-    }
+    Ok(events.push(event)?)
 }

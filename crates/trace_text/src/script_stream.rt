@@ -87,9 +87,7 @@ fn clock_of(alloc: Global, items: &[Value]) -> Result<ListOf<u64>, ScriptFaultKi
             return Err(ScriptFaultKind::Shape);
         }
         floor = reading;
-        if readings.push(reading).is_err() {
-            return Err(ScriptFaultKind::OutOfMemory);
-        }
+        readings.push(reading)?;
     }
     Ok(readings)
 }

@@ -26,9 +26,7 @@ pub(crate) fn structure_values(
     let mut values = Values::new(alloc);
     for (index, item) in items.iter().enumerate() {
         let value = value_at(alloc, structure, index, item)?;
-        if values.push(value).is_err() {
-            return Err(ScriptFaultKind::OutOfMemory);
-        }
+        values.push(value)?;
     }
     Ok(values)
 }
@@ -115,9 +113,7 @@ fn element_values(
     let mut values = Values::new(alloc);
     for item in items {
         let value = value_in(alloc, element, item)?;
-        if values.push(value).is_err() {
-            return Err(ScriptFaultKind::OutOfMemory);
-        }
+        values.push(value)?;
     }
     Ok(values)
 }
