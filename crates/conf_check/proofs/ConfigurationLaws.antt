@@ -7,16 +7,18 @@ use Rattle.serde_json.specs.Data.{Data}
 use Rattle.ctf_types.specs.AllowedConfig.{IsConfig}
 use Rattle.ctf_types.specs.declared.Config.{Config}
 use Rattle.conf_tree.specs.declared.fault.ConfFault.{ConfFault}
+use Rattle.conf_tree.specs.declared.limits.TheConstants.{MAX_LEVELS}
 use Rattle.conf_tree.specs.Flaw.{Flaw, flaw_of, IsMemory}
 use Rattle.conf_tree.specs.Order.{Ascends}
-use Rattle.conf_tree.specs.Walk.{refusal, IsTreeOf, IsFirstFlaw, Reads, FlawHolds, max_levels}
+use Rattle.conf_tree.specs.Walk.{refusal, IsTreeOf, IsFirstFlaw, Reads, FlawHolds}
 use Rattle.conf_inherit.specs.Faults.{RefusalHolds}
 use Rattle.conf_inherit.specs.Resolution.{aliases_of, resolution, Resolves}
 use Rattle.conf_judge.specs.Flaws.{configuration_flaws}
 use Rattle.conf_judge.specs.Limits.{configuration_limits}
 use Rattle.conf_draft.specs.declared.draft.Draft.{Draft}
 use Rattle.conf_check.specs.Configuration.{IsConfigurationOf, IsNoConfiguration, IsInnocent, HasNoFault, IsNoTree, RefusedForMemory, ConfiguresByLookUp, GivesThat}
-use Rattle.conf_check.specs.Judgement.{whole, IsJudgedTo, IsFirstFlawOf}
+use Rattle.conf_check.specs.FirstFlaw.{IsFirstFlawOf}
+use Rattle.conf_check.specs.Judgement.{whole, IsJudgedTo}
 use Rattle.conf_inherit.proofs.RefusalLemmas.{refusal_excluded}
 use Rattle.conf_inherit.proofs.LookedUp.{one_look}
 use Rattle.conf_laws.proofs.TableFlawLaws.{none_left, none_refused, refused_told}
@@ -68,7 +70,7 @@ configuration_judged d number c h =
 
 pub configuration_refused : (d : Data) (number : Option (List ℕ)) (flaw : Flaw) → IsFirstFlawOf d number flaw → IsNoConfiguration d number flaw
 configuration_refused d number flaw (IsFirstFlawOf.of_an_object (wrong, first)) = inl wrong
-configuration_refused d number flaw (IsFirstFlawOf.of_the_whole draft rows says e) = inr (draft, rows, says, rule_refused d draft flaw e)
+configuration_refused d number flaw (IsFirstFlawOf.of_the_whole draft rows says (wrong, first)) = inr (draft, rows, says, wrong)
 
 -- want of memory, or what follows from the other
 pub memory_or : {M A B : Type 0} → M ⊎ A → (A → B) → M ⊎ B
@@ -111,7 +113,7 @@ pub configured_by_look_up : (text : List ℕ) (number : Option (List ℕ)) (t r 
 configured_by_look_up text number t r c tree resolved resolves is = (t, r, tree, (λ flaw wrong. refusal_excluded text t r tree resolved flaw wrong), resolves, is)
 
 -- a text that has no tree is refused for what is wrong with it
-pub no_tree : (text : List ℕ) (fault : ConfFault) → IsMemory fault ⊎ IsFirstFlaw text (flaw_of fault) → IsMemory fault ⊎ ((d : Data) → Reads text d → FlawHolds d max_levels (flaw_of fault)) → IsMemory fault ⊎ IsNoTree text (flaw_of fault)
+pub no_tree : (text : List ℕ) (fault : ConfFault) → IsMemory fault ⊎ IsFirstFlaw text (flaw_of fault) → IsMemory fault ⊎ ((d : Data) → Reads text d → FlawHolds d MAX_LEVELS (flaw_of fault)) → IsMemory fault ⊎ IsNoTree text (flaw_of fault)
 no_tree text fault (inl memory) holds = inl memory
 no_tree text fault (inr first) (inl memory) = inl memory
 no_tree text fault (inr (inl none)) (inr holds) = inr (inl none)

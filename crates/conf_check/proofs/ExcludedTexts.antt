@@ -4,8 +4,9 @@ use Rattle.serde_json.specs.Data.{Data, number, array, object, Items, no_items, 
 use Rattle.serde_json.specs.Find.{get_item}
 use Rattle.conf_tree.specs.declared.fault_kind.FaultKind.{FaultKind}
 use Rattle.conf_tree.specs.declared.fault_kind.FaultKind.TheVariants.{TooDeep, NotWhole}
+use Rattle.conf_tree.specs.declared.limits.TheConstants.{MAX_LEVELS}
 use Rattle.conf_tree.specs.Flaw.{Flaw, Place, key, index, here, within}
-use Rattle.conf_tree.specs.Walk.{flaws, item_flaws, member_flaws, max_levels, IsTreeOf, HasMember, LeadsTo, IsNested, IsFloat, KindHolds, FlawHolds}
+use Rattle.conf_tree.specs.Walk.{flaws, item_flaws, member_flaws, IsTreeOf, HasMember, LeadsTo, IsNested, IsFloat, KindHolds, FlawHolds}
 use Rattle.conf_laws.proofs.Sound.{first_none}
 use Rattle.conf_check.specs.Configuration.{IsNoTree}
 
@@ -64,4 +65,4 @@ flaw_excluded d levels flaw none (found, leads, kind) = kind_excluded flaw.kind 
 
 pub tree_excluded : (text : List ℕ) (t : Data) (flaw : Flaw) → IsTreeOf text t → ¬ IsNoTree text flaw
 tree_excluded text t flaw tree (inl (is, none)) = none t tree.0
-tree_excluded text t flaw tree (inr (d, reads, holds)) = let same : t ≡ d = cc (tree.0.1, reads.1) in flaw_excluded d max_levels flaw (subst (λ x. flaws x max_levels ≡ []) same tree.1) holds
+tree_excluded text t flaw tree (inr (d, reads, holds)) = let same : t ≡ d = cc (tree.0.1, reads.1) in flaw_excluded d MAX_LEVELS flaw (subst (λ x. flaws x MAX_LEVELS ≡ []) same tree.1) holds

@@ -22,8 +22,6 @@ use Rattle.ctf_types.specs.declared.IntType.{IntType}
 use Rattle.ctf_types.specs.declared.MemberType.{MemberType}
 use Rattle.ctf_types.specs.declared.MemberType.TheVariants.{Plain, Dyn}
 use Rattle.ctf_types.specs.declared.StructType.{StructType}
-use Rattle.conf_table.specs.declared.place.Place.TheVariants.{Root}
-use Rattle.conf_table.specs.declared.row.Content.TheVariants.{At}
 use Rattle.conf_tree.specs.declared.fault_kind.FaultKind.TheVariants.{FieldTooSmall, ZeroSizeRecord, NoClock, NoUuid, TimestampSize}
 use Rattle.conf_tree.specs.Flaw.{Flaw, Place, key, here, within}
 use Rattle.conf_tree.specs.Reading.{at, ◌>>=◌}
@@ -31,20 +29,20 @@ use Rattle.conf_tree.specs.Walk.{refusal}
 use Rattle.conf_judge.specs.Limits.{configuration_limits}
 use Rattle.conf_draft.specs.declared.draft.Draft.{Draft}
 use Rattle.conf_laws.specs.Rules.{RecordHasBits, KeepsRules, KeepsStreamRules}
-use Rattle.conf_laws.specs.TableLimits.{PassesLimitOf}
 use Rattle.conf_laws.proofs.Readings.{some_there}
 use Rattle.conf_laws.proofs.TableLimitLaws.{refused_told}
 use Rattle.conf_check.specs.declared.stream_rule.StreamRule.{StreamRule}
 use Rattle.conf_check.specs.declared.stream_rule.StreamRule.TheVariants.{NumbersFit, RecordsHaveBits, ClocksAreThere, TimestampsAreSized}
 use Rattle.conf_check.specs.declared.stream_rule.Timestamp.{Timestamp}
 use Rattle.conf_check.specs.declared.stream_rule.Timestamp.TheVariants.{Record, Beginning, End}
+use Rattle.conf_check.specs.FirstFlaw.{IsFlawOfWhole}
 use Rattle.conf_check.specs.Judgement.{header_flaw, stream_number_fits, number_given, identifier_given, one_order, whole}
 use Rattle.conf_check.specs.StreamRules.{feature_flaw, unless, each, holds, numbers_fit, member_has_bits, struct_has_bits, header_has_bits, record_has_bits, records_have_bits, clock_is_there, field_of, timestamp_flaw, timestamps, timestamp_is, is_clocked, clocks_are_there, is_sized, timestamps_sized, judged, streams_judged}
 use Rattle.conf_check.specs.WholeFlaws.{in_stream, IsTimestampOf, of_record, of_beginning, of_end, BreaksRule, stream_number, event_number, no_bits, no_such_clock, no_clock, no_number, no_identifier, two_orders, packet_timestamp, record_timestamp, no_beginning}
 
 -- ---- what the tests decide
 
-holds_decides : (n : ℕ) (f : Option IntType) → Decides (holds n f) (HoldsUpTo n f)
+pub holds_decides : (n : ℕ) (f : Option IntType) → Decides (holds n f) (HoldsUpTo n f)
 unfolding holds
 holds_decides n None = Decides-eqb n 0
 holds_decides n (Some t) = Decides-ltb n (2 ^ t.size)
@@ -61,7 +59,7 @@ struct_decides s = (
   λ h. list_any-from_Any (λ (m : List ℕ × MemberType). member_has_bits m.1) s.members (h.1.0, h.0, h.1.1, h.1.2, (member_decides h.0.1).1 h.2),
 )
 
-record_decides : (s : StreamType) (e : EventType) → Decides (header_has_bits s || struct_has_bits e.specific || struct_has_bits e.payload) (RecordHasBits s e)
+pub record_decides : (s : StreamType) (e : EventType) → Decides (header_has_bits s || struct_has_bits e.specific || struct_has_bits e.payload) (RecordHasBits s e)
 unfolding header_has_bits
 record_decides s e =
     let id = is_some s.event_header.id in
@@ -76,22 +74,22 @@ record_decides s e =
     (Decides-or common (specific || payload) (struct_decides s.common) (Decides-or specific payload (struct_decides e.specific) (struct_decides e.payload)))))
 
 -- a name that a clock type has, and one that none has
-clock_named : (clocks : List ClockType) (name : List ℕ) → list_any (λ (c : ClockType). bytes_eq c.name name) clocks ≡ true → Contains (map (λ c. c.name) clocks) name
+pub clock_named : (clocks : List ClockType) (name : List ℕ) → list_any (λ (c : ClockType). bytes_eq c.name name) clocks ≡ true → Contains (map (λ c. c.name) clocks) name
 clock_named [] name e = absurd cc
 clock_named (c ∷ cs) name e = elim (or_cases (bytes_eq c.name name) (list_any (λ (x : ClockType). bytes_eq x.name name) cs) e) [
   | inl is ↦ (0, omega arith, (bytes_eq-Decides c.name name).0 is)
   | inr others ↦ let there = clock_named cs name others in (suc there.0, omega (arith, there.1), there.2)
 ]
 
-not_named : (clocks : List ClockType) (name : List ℕ) → list_any (λ (c : ClockType). bytes_eq c.name name) clocks ≡ false → (c : ClockType) → Contains clocks c → c.name ≢ name
+pub not_named : (clocks : List ClockType) (name : List ℕ) → list_any (λ (c : ClockType). bytes_eq c.name name) clocks ≡ false → (c : ClockType) → Contains clocks c → c.name ≢ name
 not_named clocks name e c (k, below, is) same = false≢true (sym e ∙ list_any-from_Any (λ (x : ClockType). bytes_eq x.name name) clocks (k, c, below, is, (bytes_eq-Decides c.name name).1 same))
 
 -- ---- what an answer says: what is kept where it passes, and what its flaw breaks
 
-abbrev Says : Result ⊤ Flaw → Type 0 → (Flaw → Type 0) → Type 0
+abbrev pub Says : Result ⊤ Flaw → Type 0 → (Flaw → Type 0) → Type 0
 Says r Keeps Breaks = ((r ≡ Ok tt) × Keeps) ⊎ ((flaw : Flaw) × (r ≡ Err flaw) × Breaks flaw)
 
-refused : {B : Flaw → Type 0} (b : Bool) (flaw : Flaw) → (b ≡ true → B flaw) → Says (if b then Err flaw else Ok tt) (b ≡ false) B
+pub refused : {B : Flaw → Type 0} (b : Bool) (flaw : Flaw) → (b ≡ true → B flaw) → Says (if b then Err flaw else Ok tt) (b ≡ false) B
 refused true flaw fails = inr (flaw, refl, fails refl)
 refused false flaw fails = inl (refl, refl)
 
@@ -100,11 +98,11 @@ as_it_is (Ok x) fails = inl (refl, refl)
 as_it_is (Err flaw) fails = inr (flaw, refl, fails flaw refl)
 
 module _ {P : Type 0} {B : Flaw → Type 0} where
-  tested : (b : Bool) (flaw : Flaw) → (b ≡ true → P) → (b ≡ false → B flaw) → Says (unless b flaw) P B
+  pub tested : (b : Bool) (flaw : Flaw) → (b ≡ true → P) → (b ≡ false → B flaw) → Says (unless b flaw) P B
   tested true flaw passes fails = inl (refl, passes refl)
   tested false flaw passes fails = inr (flaw, refl, fails refl)
 
-  inside : (place : Place) (r : Result ⊤ Flaw) → Says r P (λ flaw. B (within place flaw)) → Says (at place r) P B
+  pub inside : (place : Place) (r : Result ⊤ Flaw) → Says r P (λ flaw. B (within place flaw)) → Says (at place r) P B
   inside place r (inl (e, kept)) = inl (rw e refl, kept)
   inside place r (inr (flaw, e, broken)) = inr (within place flaw, rw e refl, broken)
 
@@ -126,9 +124,9 @@ every P rule (x ∷ xs) says =
 
 -- what is wrong with the whole
 abbrev pub Wrong : Data → Draft → Flaw → Type 0
-Wrong d draft flaw = BreaksRule draft flaw ⊎ PassesLimitOf (At Root) d flaw
+Wrong d draft flaw = IsFlawOfWhole d draft flaw
 
-abbrev HasSize : StreamType → Timestamp → IntType → Type 0
+abbrev pub HasSize : StreamType → Timestamp → IntType → Type 0
 HasSize s Record t = (8 ≤ t.size) × ((t.size ≡ 64) ⊎ IsSome s.context.timestamp_begin)
 HasSize s _ t = t.size ≡ 64
 
@@ -238,11 +236,11 @@ module _ (d : Data) (draft : Draft) where
       (kept_as (each one c.streams)
       (every (Keeps rule c.clocks) one c.streams (λ s there. inside (key s.name) (judged rule c.clocks s) (stream_says d draft s there rule))) (All-from_recursion (Keeps rule c.clocks) c.streams))))
 
-  identifier_says : (field : Option IntType) (uuid : Option (List ℕ)) → draft.config.header.uuid ≡ field → draft.config.uuid ≡ uuid
+  identifier_says : draft.lacks_number ≡ false → (field : Option IntType) (uuid : Option (List ℕ)) → draft.config.header.uuid ≡ field → draft.config.uuid ≡ uuid
       → Says (if is_some field && is_none uuid then Err (header_flaw (codes "uuid-field-type") NoUuid) else Ok tt) (IsSome field → IsSome uuid) (Wrong d draft)
-  identifier_says None uuid on is = inl (refl, λ none. absurd (false≢true none))
-  identifier_says (Some t) None on is = inr (header_flaw (codes "uuid-field-type") NoUuid, refl, inl (no_identifier (ap is_some on) is))
-  identifier_says (Some t) (Some u) on is = inl (refl, λ there. refl)
+  identifier_says given None uuid on is = inl (refl, λ none. absurd (false≢true none))
+  identifier_says given (Some t) None on is = inr (header_flaw (codes "uuid-field-type") NoUuid, refl, inl (no_identifier given (ap is_some on) is))
+  identifier_says given (Some t) (Some u) on is = inl (refl, λ there. refl)
 
   whole_says : Says (whole d draft) (Kept d draft) (Wrong d draft)
   unfolding whole stream_number_fits number_given identifier_given one_order
@@ -254,7 +252,7 @@ module _ (d : Data) (draft : Draft) where
       next (streams_judged RecordsHaveBits c) _ (streams_say RecordsHaveBits) (λ bits.
       next (streams_judged ClocksAreThere c) _ (streams_say ClocksAreThere) (λ clocks.
       next (number_given draft) _ (refused draft.lacks_number _ (λ e. inl (no_number e))) (λ given.
-      next (identifier_given c) _ (identifier_says c.header.uuid c.uuid refl refl) (λ identifier.
+      next (identifier_given c) _ (identifier_says given c.header.uuid c.uuid refl refl) (λ identifier.
       next (refusal (configuration_limits d)) _ (as_it_is (refusal (configuration_limits d)) (λ flaw e. inr (refused_told d flaw e))) (λ limits.
       next (one_order draft) _ (refused draft.two_orders _ (λ e. inl (two_orders e))) (λ order.
       kept_as (streams_judged TimestampsAreSized c) (streams_say TimestampsAreSized) (λ sizes. record {
@@ -280,14 +278,14 @@ module _ (d : Data) (draft : Draft) where
 -- ---- what keeps the rules breaks none of them
 
 -- a name of the clock types is one's
-clock_of : (clocks : List ClockType) (name : List ℕ) → Contains (map (λ c. c.name) clocks) name → (c : ClockType) × Contains clocks c × (c.name ≡ name)
+pub clock_of : (clocks : List ClockType) (name : List ℕ) → Contains (map (λ c. c.name) clocks) name → (c : ClockType) × Contains clocks c × (c.name ≡ name)
 clock_of [] name (k, among, is) = absurd (omega (arith, among))
 clock_of (c ∷ cs) name (zero, among, is) = (c, (0, omega arith, refl), is)
 clock_of (c ∷ cs) name (suc k, among, is) =
     let there = clock_of cs name (k, omega (arith, among), is) in
     (there.0, (suc there.1.0, omega (arith, there.1.1), there.1.2), there.2)
 
-not_both : {A : Type 0} (o : Option A) → IsSome o → o ≡ None → ⊥
+pub not_both : {A : Type 0} (o : Option A) → IsSome o → o ≡ None → ⊥
 not_both o there none = true≢false (sym there ∙ ap is_some none)
 
 module _ (d : Data) (draft : Draft) (h : Kept d draft) where
@@ -314,7 +312,7 @@ module _ (d : Data) (draft : Draft) (h : Kept d draft) where
       none c.0 c.1 c.2
   rules_excluded flaw (no_clock s group name field there of on none) = not_both s.default_clock (has_clock s there group name field of on) none
   rules_excluded flaw (no_number lacks) = true≢false (sym lacks ∙ h.number_is_given)
-  rules_excluded flaw (no_identifier on none) = not_both draft.config.uuid (h.rules.uuid_is_there on) none
+  rules_excluded flaw (no_identifier given on none) = not_both draft.config.uuid (h.rules.uuid_is_there on) none
   rules_excluded flaw (two_orders two) = true≢false (sym two ∙ h.has_one_order)
   rules_excluded flaw (packet_timestamp s name field t there of is other) = other (has_64_bits s there (codes "packet") name field t refl of is)
   rules_excluded flaw (record_timestamp s t there is short) = let least = ((keeps s there).timestamp t is).0 in omega (arith, least, short)

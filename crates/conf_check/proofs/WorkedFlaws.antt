@@ -1,5 +1,5 @@
 -- The flaws of a few configurations as a whole: each has the flaw that its case tells of, at the path that is printed.
-use Rattle.std.proofs.Common.{◌≡◌, [], ◌∷◌, List, Contains, true, Some, None, IsSome, arith}
+use Rattle.std.proofs.Common.{◌≡◌, [], ◌∷◌, List, Contains, true, false, Some, None, IsSome, arith}
 use Rattle.std.specs.Prelude.{codes}
 use Rattle.ctf_types.specs.declared.EventType.{EventType}
 use Rattle.ctf_types.specs.declared.StreamType.{StreamType}
@@ -25,9 +25,9 @@ not_handed_in : (draft : Draft) → draft.lacks_number ≡ true → BreaksRule d
 not_handed_in draft e = BreaksRule.no_number e
 
 -- the identifier's field without an identifier: at the feature
-no_uuid : (draft : Draft) → IsSome draft.config.header.uuid → draft.config.uuid ≡ None → BreaksRule draft (flaw_at (key (codes "trace") ∷ key (codes "type") ∷ key (codes "$features") ∷ key (codes "uuid-field-type") ∷ []) NoUuid)
+no_uuid : (draft : Draft) → draft.lacks_number ≡ false → IsSome draft.config.header.uuid → draft.config.uuid ≡ None → BreaksRule draft (flaw_at (key (codes "trace") ∷ key (codes "type") ∷ key (codes "$features") ∷ key (codes "uuid-field-type") ∷ []) NoUuid)
 unfolding header_flaw
-no_uuid draft on none = BreaksRule.no_identifier on none
+no_uuid draft given on none = BreaksRule.no_identifier given on none
 
 -- an event record without bits: at its type
 no_bits : (draft : Draft) (s : StreamType) (e : EventType) → Contains draft.config.streams s → Contains s.events e → ¬ RecordHasBits s e

@@ -5,8 +5,9 @@ use Rattle.serde_json.specs.Data.{Data}
 use Rattle.ctf_types.specs.declared.Config.{Config}
 use Rattle.conf_tree.specs.declared.fault.ConfFault.{ConfFault}
 use Rattle.conf_tree.specs.declared.fault_kind.FaultKind.TheVariants.{NotJson}
+use Rattle.conf_tree.specs.declared.limits.TheConstants.{MAX_LEVELS}
 use Rattle.conf_tree.specs.Flaw.{Flaw, here, IsMemory}
-use Rattle.conf_tree.specs.Walk.{IsTreeOf, IsFirstFlaw, Reads, FlawHolds, max_levels}
+use Rattle.conf_tree.specs.Walk.{IsTreeOf, IsFirstFlaw, Reads, FlawHolds}
 use Rattle.conf_inherit.specs.Faults.{RefusalHolds}
 use Rattle.conf_inherit.specs.Resolution.{resolution, Resolves}
 use Rattle.conf_table.specs.declared.place.Place.TheVariants.{Root}
@@ -15,7 +16,8 @@ use Rattle.conf_draft.specs.declared.draft.Draft.{Draft}
 use Rattle.conf_draft.specs.Traces.{draft_of}
 use Rattle.conf_laws.specs.TableFlaws.{IsFlawOf}
 use Rattle.conf_laws.specs.TableLimits.{PassesLimitOf}
-use Rattle.conf_check.specs.Judgement.{IsFirstFlawOf, KeepsAllRows}
+use Rattle.conf_check.specs.FirstFlaw.{IsFirstFlawOf, IsFlawOfWhole}
+use Rattle.conf_check.specs.Judgement.{KeepsAllRows}
 use Rattle.conf_check.specs.WholeFlaws.{BreaksRule}
 
 -- c is what the resolved tree d says, where `number` is the identifier that is handed in: every row of its objects' tables
@@ -59,11 +61,11 @@ IsRefusal text number flaw =
 abbrev pub IsNoConfiguration : Data → Option (List ℕ) → Flaw → Type 0
 IsNoConfiguration d number flaw =
     IsFlawOf [] (At Root) d flaw
-    ⊎ ((draft : Draft) × KeepsAllRows d × (draft_of number d ≡ Some draft) × (BreaksRule draft flaw ⊎ PassesLimitOf (At Root) d flaw))
+    ⊎ ((draft : Draft) × KeepsAllRows d × (draft_of number d ≡ Some draft) × IsFlawOfWhole d draft flaw)
 
 -- the text is no JSON, or the flaw's kind holds at its path in the value that it is
 abbrev pub IsNoTree : List ℕ → Flaw → Type 0
-IsNoTree text flaw = ((flaw ≡ here NotJson) × ((d : Data) → ¬ Reads text d)) ⊎ ((d : Data) × Reads text d × FlawHolds d max_levels flaw)
+IsNoTree text flaw = ((flaw ≡ here NotJson) × ((d : Data) → ¬ Reads text d)) ⊎ ((d : Data) × Reads text d × FlawHolds d MAX_LEVELS flaw)
 
 -- the flaw's kind holds at its path: in the text's value, in its inheritance, or in the resolved tree
 abbrev pub RefusalIsTrue : List ℕ → Option (List ℕ) → Flaw → Type 0

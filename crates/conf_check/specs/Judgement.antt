@@ -15,7 +15,6 @@ use Rattle.conf_judge.specs.Limits.{configuration_limits}
 use Rattle.conf_draft.specs.declared.draft.Draft.{Draft}
 use Rattle.conf_draft.specs.Traces.{draft_of}
 use Rattle.conf_laws.specs.TableFlaws.{IsFlawOf}
-use Rattle.conf_laws.specs.WalkOrder.{IsFirstOf}
 use Rattle.conf_check.specs.declared.stream_rule.StreamRule.TheVariants.{NumbersFit, RecordsHaveBits, ClocksAreThere, TimestampsAreSized}
 use Rattle.conf_check.specs.StreamRules.{holds, streams_judged, unless}
 
@@ -66,9 +65,3 @@ pub record IsJudgedTo (d : Data) (number : Option (List ℕ)) (c : Config) : Typ
 -- every row of the objects' tables holds
 abbrev pub KeepsAllRows : Data → Type 0
 KeepsAllRows d = (flaw : Flaw) → ¬ IsFlawOf [] (At Root) d flaw
-
--- the first flaw of a tree: of those of its objects by the table the one that stands before each other one in the order of a walk, or, where every row holds, the
--- first of the whole
-pub data IsFirstFlawOf (d : Data) (number : Option (List ℕ)) (flaw : Flaw) : Type 0 where
-  of_an_object : IsFirstOf d flaw → IsFirstFlawOf d number flaw
-  of_the_whole : (draft : Draft) → KeepsAllRows d → draft_of number d ≡ Some draft → whole d draft ≡ Err flaw → IsFirstFlawOf d number flaw

@@ -2,3 +2,4 @@ pub mod StreamRules
 pub mod Judgement
 pub mod Configuration
 pub mod WholeFlaws
+pub mod FirstFlaw

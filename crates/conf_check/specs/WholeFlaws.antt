@@ -1,7 +1,7 @@
 -- How a configuration whose objects are each as they should be breaks a rule over the whole, and the flaw that tells of it. A flaw
 -- of a field stands at its feature, one of a clock at the name of the default clock or at the feature, one of an event record type
 -- at that type, and one of two byte orders at the trace type.
-use Rattle.std.specs.Prelude.{◌≡◌, ◌≢◌, ◌<◌, ◌-◌, ℕ, List, Contains, Option, None, Some, IsSome, length, true, codes}
+use Rattle.std.specs.Prelude.{◌≡◌, ◌≢◌, ◌<◌, ◌-◌, ℕ, List, Contains, Option, None, Some, IsSome, length, true, false, codes}
 use Rattle.ctf_types.specs.AllowedConfig.{HoldsUpTo}
 use Rattle.ctf_types.specs.declared.ClockType.{ClockType}
 use Rattle.ctf_types.specs.declared.EventType.{EventType}
@@ -41,8 +41,8 @@ pub data BreaksRule (draft : Draft) : Flaw → Type 0 where
       → BreaksRule draft (in_stream s (feature_flaw group name NoClock))
   -- an identifier is asked for that is handed in, and none is
   no_number : draft.lacks_number ≡ true → BreaksRule draft (in_type (within (key (codes "uuid")) (here NoUuid)))
-  -- the identifier's field is on without an identifier
-  no_identifier : IsSome draft.config.header.uuid → draft.config.uuid ≡ None → BreaksRule draft (header_flaw (codes "uuid-field-type") NoUuid)
+  -- or, where none is asked for so, the identifier's field is on without an identifier
+  no_identifier : draft.lacks_number ≡ false → IsSome draft.config.header.uuid → draft.config.uuid ≡ None → BreaksRule draft (header_flaw (codes "uuid-field-type") NoUuid)
   -- both properties of a byte order are there
   two_orders : draft.two_orders ≡ true → BreaksRule draft (in_type (here TwoOrders))
   -- a timestamp of a packet that has not 64 bits

@@ -5,7 +5,8 @@ ghost use Rattle.ctf_types.specs.AllowedConfig.{IsConfig};
 ghost use Rattle.conf_tree.specs.Flaw.{flaw_of, IsMemory};
 ghost use Rattle.conf_tree.specs.Reading.{Gives};
 ghost use Rattle.conf_check.specs.Configuration.{IsConfigurationOf, IsNoConfiguration, IsInnocent};
-ghost use Rattle.conf_check.specs.Judgement.{header_flaw, whole as whole_is, IsFirstFlawOf};
+ghost use Rattle.conf_check.specs.FirstFlaw.{IsFirstFlawOf};
+ghost use Rattle.conf_check.specs.Judgement.{header_flaw, whole as whole_is};
 
 use crate::stream_rule::{StreamRule, check_each, holds, in_type};
 use conf_draft::{Draft, draft_of};
@@ -60,7 +61,7 @@ pub fn check(alloc: Global, tree: Tree, number: Option<Uuid>) -> Result<Config, 
     ensures rows { IfOk result (λ c. IsConfigurationOf (view tree.value) number c) }
     ensures allowed { IfOk result (λ c. IsConfig c) }
 
-    // The fault is the first.
+    // The fault is the first: of the objects in the order of a walk, and of the whole by kind and place.
     ensures first { IfErr result (λ fault. IsMemory fault ⊎ IsFirstFlawOf (view tree.value) number (flaw_of fault)) }
 
     // The fault's kind is that of a row which does not hold, or of a rule that is broken, and its path leads there.

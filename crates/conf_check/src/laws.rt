@@ -13,7 +13,8 @@ ghost use Rattle.conf_inherit.specs.Resolution.{resolution, Resolves};
 ghost use Rattle.conf_draft.specs.declared.draft.Draft.{Draft};
 ghost use Rattle.conf_laws.specs.TableLimits.{PassesLimitOf};
 ghost use Rattle.conf_check.specs.Configuration.{HasNoFault, IsConfigurationOf, IsNoConfiguration};
-ghost use Rattle.conf_check.specs.Judgement.{whole, IsJudgedTo, IsFirstFlawOf};
+ghost use Rattle.conf_check.specs.FirstFlaw.{IsFirstFlawOf};
+ghost use Rattle.conf_check.specs.Judgement.{whole, IsJudgedTo};
 ghost use Rattle.conf_check.specs.WholeFlaws.{BreaksRule};
 
 /// A resolved tree is judged to be a configuration exactly where all rows and all rules say so.

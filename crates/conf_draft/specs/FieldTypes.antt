@@ -2,6 +2,7 @@
 use Rattle.std.specs.Prelude.{ℕ, nat_le, true, false, Option, Some, None, codes, option_map, unwrap_or, if◌then◌else◌}
 use Rattle.std.specs.Str.{bytes_eq}
 use Rattle.serde_json.specs.Data.{Data, object, Members, no_members, member}
+use Rattle.ctf_types.specs.declared.limits.TheConstants.{MAX_ELEMENTS}
 use Rattle.ctf_types.specs.declared.FieldType.{FieldType}
 use Rattle.ctf_types.specs.declared.FieldType.TheVariants as fields
 use Rattle.ctf_types.specs.FieldTypes.{chain_of}
@@ -14,7 +15,7 @@ use Rattle.conf_draft.specs.Lookups.{natural}
 
 abbrev pub static : ℕ → Option FieldType → Option FieldType
 static length None = None
-static length (Some t) = if nat_le length 1048576 then Some (fields.Static (chain_of t) length) else None
+static length (Some t) = if nat_le length MAX_ELEMENTS then Some (fields.Static (chain_of t) length) else None
 
 unfoldable pub length_of : Members → ℕ
 length_of ms = unwrap_or (natural (codes "length") ms) 0

@@ -3,6 +3,7 @@
 use Rattle.std.specs.Prelude.{ℕ, ◌%◌, ◌==◌, nat_lt, nat_le, Bool, Option, Some, None, codes, option_and_then, unwrap_or, if◌then◌else◌}
 use Rattle.std.proofs.lemmas.Bool.{ltb-true, leb-true, eqb-true}
 use Rattle.serde_json.specs.Data.{Members}
+use Rattle.ctf_types.specs.declared.limits.TheConstants.{LARGEST_ALIGN}
 use Rattle.ctf_types.specs.declared.Base.{Base}
 use Rattle.ctf_types.specs.declared.Base.TheVariants.{Dec}
 use Rattle.ctf_types.specs.declared.IntType.{IntType}
@@ -11,10 +12,10 @@ use Rattle.conf_values.specs.Parts.{proved}
 use Rattle.conf_draft.specs.Alignments.{alignment}
 use Rattle.conf_draft.specs.Lookups.{natural, word}
 
--- an integer has 1 to 64 bits, and its alignment is a power of two up to 4,096
+-- an integer has 1 to 64 bits, and its alignment is a power of two up to the largest
 unfoldable pub made : ℕ → ℕ → Bool → Base → Option IntType
 made size align signed base =
-    proved (nat_lt 0 size) (λ some. proved (nat_le size 64) (λ at_most. proved (nat_lt 0 align) (λ positive. proved (4096 % align == 0) (λ power.
+    proved (nat_lt 0 size) (λ some. proved (nat_le size 64) (λ at_most. proved (nat_lt 0 align) (λ positive. proved (LARGEST_ALIGN % align == 0) (λ power.
     Some (record {
       size = size;
       align = align;
@@ -24,7 +25,7 @@ made size align signed base =
       not_empty = ltb-true 0 size some;
       at_most_64 = leb-true size 64 at_most;
       positive = ltb-true 0 align positive;
-      power_of_two = eqb-true (4096 % align) 0 power;
+      power_of_two = eqb-true (LARGEST_ALIGN % align) 0 power;
     })))))
 
 abbrev pub default_align : ℕ → ℕ

@@ -4,6 +4,7 @@ use Rattle.std.specs.Prelude.{ℕ, ◌%◌, ◌==◌, nat_lt, List, [], ◌∷�
 use Rattle.std.specs.Option.{option_map_or}
 use Rattle.std.proofs.lemmas.Bool.{ltb-true, eqb-true}
 use Rattle.serde_json.specs.Data.{no_items, Members}
+use Rattle.ctf_types.specs.declared.limits.TheConstants.{LARGEST_ALIGN}
 use Rattle.ctf_types.specs.declared.MemberType.{MemberType}
 use Rattle.ctf_types.specs.declared.StructType.{StructType}
 use Rattle.conf_table.specs.declared.place.Place.TheVariants as places
@@ -12,11 +13,11 @@ use Rattle.conf_draft.specs.Defaults.{alignment_or_default}
 use Rattle.conf_draft.specs.Lookups.{object, list}
 use Rattle.conf_draft.specs.Members.{members_behind}
 
--- its minimum alignment is a power of two up to 4,096
+-- its minimum alignment is a power of two up to the largest
 unfoldable pub made : List (List ℕ × MemberType) → ℕ → Option StructType
 made members align =
-    proved (nat_lt 0 align) (λ positive. proved (4096 % align == 0) (λ power.
-    Some (record { members = members; min_align = align; positive = ltb-true 0 align positive; power_of_two = eqb-true (4096 % align) 0 power })))
+    proved (nat_lt 0 align) (λ positive. proved (LARGEST_ALIGN % align == 0) (λ power.
+    Some (record { members = members; min_align = align; positive = ltb-true 0 align positive; power_of_two = eqb-true (LARGEST_ALIGN % align) 0 power })))
 
 abbrev pub align_for : List (List ℕ × MemberType) → ℕ → ℕ
 align_for [] align = 1

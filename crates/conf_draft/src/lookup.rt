@@ -7,7 +7,7 @@ ghost use Rattle.conf_draft.specs.Lookups.{natural as natural_in, word as word_i
 
 use conf_tree::optional;
 use conf_values::as_natural;
-use ctf_types::Text;
+use ctf_types::{LARGEST_ALIGN, Text};
 use serde_json::{Map, Value};
 use std::alloc::{AllocError, Global};
 
@@ -19,13 +19,13 @@ pub(crate) fn natural(members: &Map<String, Value>, name: &str) -> Option<u64>
     as_natural(optional(members, name)?)
 }
 
-/// The alignment in bits that the property `name` is: a power of two up to 4,096. One that no field can have counts as left
+/// The alignment in bits that the property `name` is: a power of two up to `LARGEST_ALIGN`. One that no field can have counts as left
 /// out: it is told as a limit later, so no configuration that is accepted has one.
 #[tactic(auto, unfolding(crate::specs::Alignments::alignment))]
 pub(crate) fn alignment(members: &Map<String, Value>, name: &str) -> Option<u64>
     ensures { result ≡ alignment_in name.now (members_view members.now.entries) }
 {
-    natural(members, name).filter(|bits| *bits > 0 && 4096 % *bits == 0)
+    natural(members, name).filter(|bits| *bits > 0 && LARGEST_ALIGN % *bits == 0)
 }
 
 /// The text that the property `name` is.

@@ -1,4 +1,5 @@
 pub mod Adding
+pub mod EndLemmas
 pub mod NearestLemmas
 pub mod ShownLemmas
 pub mod WantedLemmas

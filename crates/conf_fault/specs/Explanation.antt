@@ -7,6 +7,7 @@ use Rattle.conf_tree.specs.declared.step.Step.TheVariants.{Key, Index}
 use Rattle.conf_tree.specs.declared.fault.ConfFault.{ConfFault}
 use Rattle.conf_tree.specs.declared.fault_kind.FaultKind.{FaultKind}
 use Rattle.conf_tree.specs.declared.fault_kind.FaultKind.TheVariants.{NotJson, TooDeep, Unknown, InheritCycle, BadName, ReservedName, NameClash, ZeroSizeRecord, NoUuid, TwoOrders, OutOfMemory}
+use Rattle.conf_tree.specs.declared.limits.TheConstants.{MAX_LEVELS}
 use Rattle.conf_fault.specs.declared.line_column.LineColumn.{LineColumn}
 use Rattle.conf_fault.specs.LineColumn.{IsPlaceAt, IsPlaceIn}
 use Rattle.conf_fault.specs.Shown.{cut, shown}
@@ -70,19 +71,23 @@ IsStanding kind words = MatchOption (name_words kind) (IsValueWords words) (λ s
 
 -- ---- what was expected
 
+-- of the kinds that are the same everywhere and name no limit
+unfoldable pub same_words : FaultKind → Option (List ℕ)
+same_words InheritCycle = Some (codes "a chain of aliases that ends: this one leads into a circle")
+same_words ReservedName = Some (codes "a name that the metadata language does not use itself")
+same_words ZeroSizeRecord = Some (codes "an integer, an enumeration or a string in its contexts or its payload")
+same_words NoUuid = Some (codes "a UUID of the trace type, or with `auto` one from the caller (--uuid of `metadata` and `trace`)")
+same_words TwoOrders = Some (codes "only one of `trace-byte-order` and `native-byte-order`")
+same_words _ = None
+
 -- of the kinds that are the same everywhere
 unfoldable pub fixed_words : FaultKind → Option (List ℕ)
-fixed_words TooDeep = Some (codes "at most 32 levels of objects and lists")
-fixed_words InheritCycle = Some (codes "a chain of aliases that ends: this one leads into a circle")
-fixed_words ReservedName = Some (codes "a name that the metadata language does not use itself")
-fixed_words ZeroSizeRecord = Some (codes "an integer, an enumeration or a string in its contexts or its payload")
-fixed_words NoUuid = Some (codes "a UUID of the trace type, or with `auto` one from the caller (--uuid of `metadata` and `trace`)")
-fixed_words TwoOrders = Some (codes "only one of `trace-byte-order` and `native-byte-order`")
-fixed_words _ = None
+fixed_words TooDeep = Some (codes "at most " ++ (decimal MAX_LEVELS ++ codes " levels of objects and lists"))
+fixed_words kind = same_words kind
 
 -- of the other kinds what is told of them, and behind it a hint or none
-abbrev pub IsWanted : ConfFault → List ℕ → Type 0
-IsWanted fault words = MatchOption (fixed_words fault.kind) (IsToldAndHinted fault words) (λ said. words ≡ said)
+abbrev pub IsWanted : List ℕ → ConfFault → List ℕ → Type 0
+IsWanted text fault words = MatchOption (fixed_words fault.kind) (IsToldAndHinted text fault words) (λ said. words ≡ said)
 
 -- ---- the whole
 
@@ -95,7 +100,7 @@ pub record IsPlaced (text : List ℕ) (fault : ConfFault) (said : List ℕ) : Ty
   pub lies : IsPlaceWords text place
   pub in_alias : IsAliasWords alias
   pub stands : IsStanding fault.kind standing
-  pub expects : IsWanted fault wanted
+  pub expects : IsWanted text fault wanted
   pub is : said ≡ place ++ path_words fault.path ++ alias ++ standing ++ codes ": expected " ++ wanted
 
 -- a hint where it looks like YAML

@@ -1,5 +1,7 @@
 pub mod Expected
 pub mod Explanation
+pub mod Found
 pub mod LineColumn
+pub mod Names
 pub mod Shown
 pub mod Wanted

@@ -1,32 +1,28 @@
--- What was expected where a fault stands, by the fault's kind: what is told of it, and behind that a hint or none. Kind and path are the fault's own;
--- where in the table the way over the text ends is not said, so that what is told holds of some end.
-use Rattle.std.specs.Prelude.{◌≡◌, ◌≢◌, ◌⊎◌, ℕ, ◌+◌, ◌-◌, ◌/◌, ◌<◌, ◌≤◌, min, All, List, [], ◌++◌, reverse, ◌==◌, Option, None, Some, MatchOption, Contains, Bool, true, false, not, ◌&&◌, nat_le, nat_lt, unwrap_or, length, take, map, slice_get, if◌then◌else◌, codes, string_bytes, decimal}
+-- What was expected where a fault stands, by the fault's kind: what is told of it, and behind that a hint or none. Kind and path are the fault's own,
+-- and what is told of a value is what the table says where the way along that path ends.
+use Rattle.std.specs.Prelude.{◌≡◌, ◌⊎◌, ℕ, ◌+◌, ◌-◌, ◌/◌, ◌<◌, ◌≤◌, min, All, List, [], ◌++◌, reverse, ◌==◌, Option, None, Some, MatchOption, IfSome, Contains, ℤ, Bool, true, false, not, ◌&&◌, nat_le, nat_lt, unwrap_or, length, take, map, slice_get, if◌then◌else◌, codes, string_bytes, decimal}
 use Rattle.std.specs.Option.{option_and_then}
 use Rattle.std.specs.List.{list_any, position_from, zip}
+use Rattle.std.specs.Fmt.{signed_decimal}
 use Rattle.std.specs.Str.{bytes_eq}
 use Rattle.conf_tree.specs.declared.step.Step.{Step}
 use Rattle.conf_tree.specs.declared.step.Step.TheVariants.{Key}
 use Rattle.conf_tree.specs.declared.fault.ConfFault.{ConfFault}
 use Rattle.conf_tree.specs.declared.fault_kind.FaultKind.{FaultKind}
 use Rattle.conf_tree.specs.declared.fault_kind.FaultKind.TheVariants as kinds
+use Rattle.conf_tree.specs.declared.limits.TheConstants.{MAX_LABEL_BYTES, MAX_VALUES}
+use Rattle.ctf_types.specs.declared.limits.TheConstants.{MAX_ARRAYS, MAX_CONFIG_RANGES, MAX_ELEMENTS}
 use Rattle.conf_table.specs.declared.place.Place.{Place}
 use Rattle.conf_table.specs.declared.place.Place.TheVariants as places
 use Rattle.conf_table.specs.declared.row.Content.{Content}
 use Rattle.conf_table.specs.declared.row.Content.TheVariants as contents
 use Rattle.conf_table.specs.Table.{entries_of, rows_of}
 use Rattle.conf_table.specs.Words.{words_of}
-use Rattle.conf_fault.specs.declared.found.Found.{Found}
+use Rattle.serde_json.specs.Data.{Data}
 use Rattle.conf_fault.specs.Expected.{classes_at, expected_words, listed}
+use Rattle.conf_fault.specs.Found.{Leads, PathEnd, StandsIn, outermost}
+use Rattle.conf_fault.specs.Names.{IsRead, known_names}
 use Rattle.conf_fault.specs.Shown.{cut}
-
--- where the way ends: what the table says of a value there, the position at which it stands, and what holds it
-pub record PathEnd : Type 0 where
-  pub content : Option Content
-  pub position : Place
-  pub holder : Place
-
-abbrev pub end_of : Found → PathEnd
-end_of found = record { content = found.content; position = found.position; holder = found.holder }
 
 -- the name of the last step; empty where that is an index, or where there is no step
 abbrev pub step_name : Option Step → List ℕ
@@ -128,25 +124,31 @@ abbrev pub real_hint : Option (List ℕ) → List ℕ
 real_hint None = []
 real_hint (Some text) = if bytes_eq text (codes "real") then codes "; there are no real numbers" else []
 
--- the same of a value out of range, which may be a real number; which text stands there is not said
-abbrev pub IsChoice : List (List ℕ) → List ℕ → Type 0
-IsChoice words said = (text : Option (List ℕ)) × (told : List ℕ) × IsOneOf text words told × (said ≡ told ++ real_hint text)
+-- the same of a value out of range, which may be a real number; which of the words in quotes of the configuration stands there is not said
+abbrev pub IsChoice : List ℕ → List (List ℕ) → List ℕ → Type 0
+IsChoice text words said = (word : Option (List ℕ)) × (told : List ℕ) × IfSome word (StandsIn text) × IsOneOf word words told × (said ≡ told ++ real_hint word)
 
 -- of a value out of range: one of the words of its choice, or of the classes at its position, or what the table expects of it
-unfoldable pub IsInRange : Option Content → Place → List ℕ → Type 0
-IsInRange (Some (contents.Word choice)) position said = IsChoice (words_of choice) said
-IsInRange (Some contents.Class) position said = IsChoice (classes_at position) said
-IsInRange content position said = said ≡ expected_words content position
+unfoldable pub IsInRange : List ℕ → Option Content → Place → List ℕ → Type 0
+IsInRange text (Some (contents.Word choice)) position said = IsChoice text (words_of choice) said
+IsInRange text (Some contents.Class) position said = IsChoice text (classes_at position) said
+IsInRange text content position said = said ≡ expected_words content position
 
 -- the first 20 of some names, and how many more there are
 abbrev pub few_listed : List (List ℕ) → List ℕ
 few_listed names = if nat_le (length names) 20 then listed names else listed (take 20 names) ++ (codes " and " ++ decimal (length names - 20) ++ codes " more")
 
--- the name of a thing, with those that there are, and the nearest of them or none; none of them is the one in whose value it would stand; which text
--- stands there is not said
-abbrev pub IsKnownName : List ℕ → List ℕ → List ℕ → Type 0
-IsKnownName thing own said = (names : List (List ℕ)) × (text : Option (List ℕ)) × (nearest : List ℕ) × All (λ name. name ≢ own) names × IsNearestIf text names nearest
-    × (said ≡ codes "the name of " ++ (thing ++ codes " (there are ") ++ few_listed names ++ codes ")" ++ nearest)
+-- the name of a thing, with those that the map of the trace type has but the one in whose value it would stand, and the nearest of them or none; which of
+-- the words in quotes of the configuration stands there is not said
+abbrev pub IsKnownName : List ℕ → List ℕ → List ℕ → List ℕ → List ℕ → Type 0
+IsKnownName text thing map own said = (tree : Option Data) × (word : Option (List ℕ)) × (nearest : List ℕ) × IsRead text tree × IfSome word (StandsIn text)
+    × IsNearestIf word (known_names map own tree) nearest
+    × (said ≡ codes "the name of " ++ (thing ++ codes " (there are ") ++ few_listed (known_names map own tree) ++ codes ")" ++ nearest)
+
+-- the map in which aliases stand: those of log levels, or of field types
+abbrev pub alias_map : Option Content → List ℕ
+alias_map (Some (contents.Level high)) = codes "$log-level-aliases"
+alias_map _ = codes "$field-type-aliases"
 
 -- an alias, in the value of one of field types another
 unfoldable pub alias_thing : List ℕ → Option Content → List ℕ
@@ -166,14 +168,22 @@ IsLargestNumber feature said = (said ≡ codes "room for the largest number that
 abbrev pub IsRoom : List ℕ → List ℕ → Type 0
 IsRoom feature said = (off : Bool) × (room : List ℕ) × IsLargestNumber feature room × (said ≡ (if off then codes "true, or a field with " else []) ++ room)
 
--- how much a value at a place can hold where the table sets no limit to its entries: elements of arrays are counted where no array is around them
+-- what a field type holds with what it inherits
+abbrev pub value_words : List ℕ
+value_words = decimal MAX_VALUES ++ codes " values with what is inherited"
+
+-- the same where no array is around it, so that its elements are counted
+abbrev pub array_words : List ℕ
+array_words = codes "at most " ++ (decimal MAX_ARRAYS ++ (codes " arrays in one another, " ++ (decimal MAX_ELEMENTS ++ (codes " elements, and " ++ value_words))))
+
+-- how much a value at a place can hold where the table sets no limit to its entries
 unfoldable pub size_words : Place → List ℕ
-size_words places.Mappings = codes "at most 1024 ranges"
-size_words places.Ranges = codes "a label of at most 4096 bytes"
-size_words places.MemberType = codes "at most 8 arrays in one another, 1048576 elements, and 4096 values with what is inherited"
-size_words places.DynamicElementType = codes "at most 8 arrays in one another, 1048576 elements, and 4096 values with what is inherited"
-size_words places.IdentifierFeature = codes "at most 8 arrays in one another, 1048576 elements, and 4096 values with what is inherited"
-size_words _ = codes "at most 4096 values with what is inherited"
+size_words places.Mappings = codes "at most " ++ (decimal MAX_CONFIG_RANGES ++ codes " ranges")
+size_words places.Ranges = codes "a label of at most " ++ (decimal MAX_LABEL_BYTES ++ codes " bytes")
+size_words places.MemberType = array_words
+size_words places.DynamicElementType = array_words
+size_words places.IdentifierFeature = array_words
+size_words _ = codes "at most " ++ value_words
 
 -- how many entries there can be at a place, or how much it can hold
 abbrev pub most_words : Place → Option ℕ → List ℕ
@@ -188,15 +198,15 @@ limit_words content position = expected_words content position
 abbrev pub names_of : Place → List (List ℕ)
 names_of holder = map (λ r. r.name) (rows_of holder)
 
--- what is told of a kind at the end of a path, where the way ends
-unfoldable pub IsToldOfKind : FaultKind → List Step → PathEnd → List ℕ → Type 0
-IsToldOfKind kinds.Unknown path end said = IsOneOf (Some (end_name path)) (names_of end.holder) said
-IsToldOfKind kinds.OutOfRange path end said = IsInRange end.content end.position said
-IsToldOfKind kinds.NoSuchAlias path end said = IsKnownName (alias_thing (own_alias path) end.content) (own_alias path) said
-IsToldOfKind kinds.NoClock path end said = IsKnownName (codes "a clock type") [] said
-IsToldOfKind kinds.FieldTooSmall path end said = IsRoom (end_name path) said
-IsToldOfKind kinds.Limit path end said = said ≡ limit_words end.content end.position
-IsToldOfKind _ path end said = said ≡ expected_words end.content end.position
+-- what is told of a kind at the end of a path, where the way over a text ends
+unfoldable pub IsToldOfKind : List ℕ → FaultKind → List Step → PathEnd → List ℕ → Type 0
+IsToldOfKind text kinds.Unknown path end said = IsOneOf (Some (end_name path)) (names_of end.holder) said
+IsToldOfKind text kinds.OutOfRange path end said = IsInRange text end.content end.position said
+IsToldOfKind text kinds.NoSuchAlias path end said = IsKnownName text (alias_thing (own_alias path) end.content) (alias_map end.content) (own_alias path) said
+IsToldOfKind text kinds.NoClock path end said = IsKnownName text (codes "a clock type") (codes "clock-types") [] said
+IsToldOfKind text kinds.FieldTooSmall path end said = IsRoom (end_name path) said
+IsToldOfKind text kinds.Limit path end said = said ≡ limit_words end.content end.position
+IsToldOfKind text _ path end said = said ≡ expected_words end.content end.position
 
 -- ---- a hint
 
@@ -207,9 +217,22 @@ is_hyphen b = b == 45
 abbrev pub IsLikeHint : List ℕ → List ℕ → Type 0
 IsLikeHint name hint = (names : List (List ℕ)) × (other : List ℕ) × IsNearestOf ((length name - 1) / 2) name names (Some other) × (hint ≡ codes "; there is `" ++ cut other ++ codes "`")
 
--- of a property that is missing, perhaps: where it would be outermost, and where a property has a name like it
+-- of a member that has the properties of a field type itself
+abbrev pub IsMemberHint : List ℕ → List ℕ → Type 0
+IsMemberHint name hint = (bytes_eq name (codes "field-type") ≡ true) × (hint ≡ codes "; a member's field type stands under `field-type`")
+
+-- of a property that is missing, perhaps: where it would be outermost, where a member is its own field type, and where a property has a name like it
 abbrev pub IsMissingHint : List Step → List ℕ → List ℕ → Type 0
-IsMissingHint path name hint = (hint ≡ []) ⊎ (((length path ≡ 1) × (hint ≡ codes "; this looks like a configuration of barectf 2, and ctftrace reads those of barectf 3")) ⊎ IsLikeHint name hint)
+IsMissingHint path name hint = (hint ≡ []) ⊎ (((length path ≡ 1) × (hint ≡ codes "; this looks like a configuration of barectf 2, and ctftrace reads those of barectf 3"))
+    ⊎ (IsMemberHint name hint ⊎ IsLikeHint name hint))
+
+-- of a number that is no whole one, perhaps: how it would be written
+abbrev pub IsWholeHint : List ℕ → Type 0
+IsWholeHint hint = (hint ≡ []) ⊎ ((hint ≡ codes "; a whole number is written without fraction or exponent") ⊎ (hint ≡ codes "; 0 is written without a sign"))
+
+-- of an alias that is not known, perhaps: that a feature which is on or off is none
+abbrev pub IsQuoteHint : List ℕ → Type 0
+IsQuoteHint hint = (hint ≡ []) ⊎ (hint ≡ codes "; `true` and `false` stand without quotes")
 
 -- of a name that is taken, perhaps: by a member that a packet context has itself, or for the length of a dynamic array
 abbrev pub IsClashHint : List ℕ → List ℕ → Type 0
@@ -218,10 +241,21 @@ IsClashHint name hint = (hint ≡ [])
     ⊎ ((hint ≡ codes "; a dynamic array `x` takes `__x_len` too")
     ⊎ (hint ≡ codes "; a dynamic array `" ++ cut name ++ codes "` takes `" ++ cut (codes "__" ++ name ++ codes "_len") ++ codes "` too")))
 
+-- of a name that is taken: which entry of its list has it, which is not said, or whose it is
+abbrev pub IsNameHint : List ℕ → List ℕ → Type 0
+IsNameHint name hint = ((index : ℕ) × (hint ≡ codes "; entry " ++ (decimal index ++ codes " has it"))) ⊎ IsClashHint name hint
+
+-- of a range of an enumeration, perhaps: from which number to which its integer goes; what the enumeration's size and class are is not said
+abbrev pub IsRangeHint : List ℕ → Type 0
+IsRangeHint hint = (hint ≡ []) ⊎ ((low : ℤ) × (high : ℤ) × (hint ≡ codes "; the integer holds " ++ (signed_decimal low ++ (codes " to " ++ signed_decimal high))))
+
 -- a hint, by the kind and the name of the last step
 unfoldable pub IsHint : FaultKind → List Step → List ℕ → Type 0
 IsHint kinds.Missing path hint = IsMissingHint path (end_name path) hint
-IsHint kinds.NameClash path hint = IsClashHint (end_name path) hint
+IsHint kinds.NameClash path hint = IsNameHint (end_name path) hint
+IsHint kinds.OutOfRange path hint = IsRangeHint hint
+IsHint kinds.NotWhole path hint = IsWholeHint hint
+IsHint kinds.NoSuchAlias path hint = IsQuoteHint hint
 IsHint kinds.Unknown path hint = hint ≡ (if bytes_eq (end_name path) (codes "$include") then codes "; tools/yaml_to_json puts in what `$include` names" else [])
 IsHint kinds.BadName path hint = hint ≡ (if list_any is_hyphen (end_name path) then codes "; a hyphen stands in no name, `_` does" else [])
 IsHint _ path hint = hint ≡ []
@@ -229,8 +263,13 @@ IsHint _ path hint = hint ≡ []
 -- ---- the whole
 
 -- what is told of a fault: the text of its kind and its property's name, or what its kind tells where the way ends
-abbrev pub IsTold : ConfFault → PathEnd → List ℕ → Type 0
-IsTold fault end said = MatchOption (named_text fault.kind (end_name fault.path) end.content) (IsToldOfKind fault.kind fault.path end said) (λ text. said ≡ text)
+abbrev pub IsTold : List ℕ → ConfFault → PathEnd → List ℕ → Type 0
+IsTold text fault end said = MatchOption (named_text fault.kind (end_name fault.path) end.content) (IsToldOfKind text fault.kind fault.path end said) (λ words. said ≡ words)
 
-abbrev pub IsToldAndHinted : ConfFault → List ℕ → Type 0
-IsToldAndHinted fault said = (end : PathEnd) × (told : List ℕ) × (hint : List ℕ) × IsTold fault end told × IsHint fault.kind fault.path hint × (said ≡ told ++ hint)
+-- where the way along the fault's path ends
+abbrev pub IsEnd : List ℕ → ConfFault → PathEnd → Type 0
+IsEnd text fault end = Leads text outermost fault.path end
+
+abbrev pub IsToldAndHinted : List ℕ → ConfFault → List ℕ → Type 0
+IsToldAndHinted text fault said = (end : PathEnd) × (told : List ℕ) × (hint : List ℕ) × IsEnd text fault end × IsTold text fault end told × IsHint fault.kind fault.path hint
+    × (said ≡ told ++ hint)

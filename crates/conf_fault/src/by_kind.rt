@@ -1,35 +1,37 @@
 //! What was expected, by the kind of a fault.
 
-ghost use Rattle.std.specs.Prelude.{◌≡◌, ◌++◌, IfOk, OnOk, Some, map, string_bytes};
-ghost use Rattle.std.specs.Option.{option_and_then, option_copied};
+ghost use Rattle.std.specs.Prelude.{◌≡◌, IfOk, OnOk, Some, map, option_map, string_bytes};
+ghost use Rattle.std.specs.Option.{option_copied};
 ghost use Rattle.std.specs.List.{list_any};
-ghost use Rattle.conf_table.specs.Table.{entries_of};
-ghost use Rattle.conf_fault.specs.Explanation.{Adds, IsWanted, fixed_words, name_words};
-ghost use Rattle.conf_fault.specs.Wanted.{IsChoice, IsClashHint, IsHint, IsInRange, IsKnownName, IsMissingHint, IsOneOf, IsTold, IsToldAndHinted, IsToldOfKind, alias_thing as alias_thing_of, can_be_whole, end_name as name_of_end, end_of, is_control, limit_words, most_words, named_text, names_of, range_text, size_words};
+ghost use Rattle.conf_fault.specs.Explanation.{Adds, IsWanted, fixed_words as words_of_kind, name_words as words_of_name, same_words as words_without_limit};
+ghost use Rattle.conf_fault.specs.Found.{end_of};
+ghost use Rattle.conf_fault.specs.Wanted.{IsChoice, IsEnd, IsInRange, IsKnownName, IsOneOf, IsTold, IsToldAndHinted, IsToldOfKind, alias_map as map_of_aliases, alias_thing as alias_thing_of, can_be_whole, end_name as name_of_end, is_control, named_text, names_of, range_text};
 
-use crate::expected::{classes_at, nearest, push_expected, push_nearest, push_words};
+use crate::expected::{classes_at, push_expected, push_nearest, push_words};
 use crate::found::Found;
+use crate::hints::push_hint;
 use crate::named::{push_known, push_room};
 use crate::path::{end_name, own_alias};
-use crate::shown::push_cut;
-use crate::source::Source;
-use conf_table::{Content, Place, content, entries, rows, words_in};
-use conf_tree::{ConfFault, FaultKind, Step};
-use std::alloc::AllocError;
+use crate::sizes::push_limit;
+use conf_table::{Content, Place, rows, words_in};
+use conf_tree::{ConfFault, FaultKind, MAX_LEVELS, Step};
+use std::alloc::{AllocError, Global};
 
 /// What was expected where a fault stands.
 pub(crate) fn wanted_words(found: &Found<'_>, fault: &ConfFault) -> Result<String, AllocError>
-    ensures { IfOk result (λ words. IsWanted fault.now (string_bytes words)) }
+    requires { IsEnd found.now.source.text.now fault.now (end_of found.now) }
+    ensures { IfOk result (λ words. IsWanted found.now.source.text.now fault.now (string_bytes words)) }
 {
-    match kind_words(fault.kind).1 {
-        Some(words) => String::from_str(found.source.alloc, words),
+    match fixed_words(found.source.alloc, fault.kind)? {
+        Some(words) => Ok(words),
         None => told_words(found, fault),
     }
 }
 
 /// What was expected by the kinds that are not the same everywhere, and a hint.
 fn told_words(found: &Found<'_>, fault: &ConfFault) -> Result<String, AllocError>
-    ensures { IfOk result (λ words. IsToldAndHinted fault.now (string_bytes words)) }
+    requires { IsEnd found.now.source.text.now fault.now (end_of found.now) }
+    ensures { IfOk result (λ words. IsToldAndHinted found.now.source.text.now fault.now (string_bytes words)) }
 {
     let mut words = String::new(found.source.alloc);
     push_wanted(&mut words, found, fault)?;
@@ -37,7 +39,8 @@ fn told_words(found: &Found<'_>, fault: &ConfFault) -> Result<String, AllocError
 }
 
 fn push_wanted(said: &mut String, found: &Found<'_>, fault: &ConfFault) -> Result<(), AllocError>
-    ensures { OnOk result (Adds (IsToldAndHinted fault.now) (string_bytes said.old) (string_bytes said.new)) }
+    requires { IsEnd found.now.source.text.now fault.now (end_of found.now) }
+    ensures { OnOk result (Adds (IsToldAndHinted found.now.source.text.now fault.now) (string_bytes said.old) (string_bytes said.new)) }
 {
     let name = end_name(fault.path.as_slice());
     push_told(said, found, fault, name)?;
@@ -51,7 +54,7 @@ fn push_told(
     name: &str,
 ) -> Result<(), AllocError>
     requires { name.now ≡ name_of_end fault.now.path }
-    ensures { OnOk result (Adds (IsTold fault.now (end_of found.now)) (string_bytes said.old) (string_bytes said.new)) }
+    ensures { OnOk result (Adds (IsTold found.now.source.text.now fault.now (end_of found.now)) (string_bytes said.old) (string_bytes said.new)) }
 {
     match words_here(fault.kind, name, found.content) {
         Some(words) => said.push_str(words),
@@ -65,7 +68,7 @@ fn push_told_of_kind(
     kind: FaultKind,
     path: &[Step],
 ) -> Result<(), AllocError>
-    ensures { OnOk result (Adds (IsToldOfKind kind path.now (end_of found.now)) (string_bytes said.old) (string_bytes said.new)) }
+    ensures { OnOk result (Adds (IsToldOfKind found.now.source.text.now kind path.now (end_of found.now)) (string_bytes said.old) (string_bytes said.new)) }
 {
     match kind {
         FaultKind::Unknown => push_properties(said, found, end_name(path)),
@@ -78,50 +81,66 @@ fn push_told_of_kind(
     }
 }
 
-/// What is said of a name where a fault of this kind is the name's and not its value's, and what is expected where that is the same everywhere.
-#[tactic(auto, unfolding(crate::specs::Explanation::name_words, crate::specs::Explanation::fixed_words))]
-pub(crate) fn kind_words(kind: FaultKind) -> (Option<&'static str>, Option<&'static str>)
-    ensures name { option_copied result.0 ≡ name_words kind }
-    ensures expected { option_copied result.1 ≡ fixed_words kind }
+/// What is said of a name where a fault of this kind is the name's and not its value's.
+#[tactic(auto, unfolding(crate::specs::Explanation::name_words))]
+pub(crate) fn name_words(kind: FaultKind) -> Option<&'static str>
+    ensures { option_copied result ≡ words_of_name kind }
 {
     match kind {
-        FaultKind::Unknown => (Some("unknown property"), None),
-        FaultKind::BadName => (Some("bad name"), None),
-        FaultKind::ReservedName => (
-            Some("reserved word"),
-            Some("a name that the metadata language does not use itself"),
+        FaultKind::Unknown => Some("unknown property"),
+        FaultKind::BadName => Some("bad name"),
+        FaultKind::ReservedName => Some("reserved word"),
+        FaultKind::NameClash => Some("name is taken"),
+        _ => None,
+    }
+}
+
+/// What is expected by the kinds of which that is the same everywhere.
+fn fixed_words(alloc: Global, kind: FaultKind) -> Result<Option<String>, AllocError>
+    ensures { IfOk result (λ words. option_map string_bytes words ≡ words_of_kind kind) }
+{
+    if let FaultKind::TooDeep = kind {
+        let levels = format!(in alloc; "at most {MAX_LEVELS} levels of objects and lists")?;
+        return Ok(Some(levels));
+    }
+    match same_words(kind) {
+        Some(words) => Ok(Some(String::from_str(alloc, words)?)),
+        None => Ok(None),
+    }
+}
+
+/// The same where no limit is named.
+#[tactic(auto, unfolding(crate::specs::Explanation::same_words))]
+fn same_words(kind: FaultKind) -> Option<&'static str>
+    ensures { option_copied result ≡ words_without_limit kind }
+{
+    match kind {
+        FaultKind::ReservedName => Some("a name that the metadata language does not use itself"),
+        FaultKind::InheritCycle => Some(
+            "a chain of aliases that ends: this one leads into a circle",
         ),
-        FaultKind::NameClash => (Some("name is taken"), None),
-        FaultKind::TooDeep => (None, Some("at most 32 levels of objects and lists")),
-        FaultKind::InheritCycle => (
-            None,
-            Some("a chain of aliases that ends: this one leads into a circle"),
+        FaultKind::ZeroSizeRecord => Some(
+            "an integer, an enumeration or a string in its contexts or its payload",
         ),
-        FaultKind::ZeroSizeRecord => (
-            None,
-            Some("an integer, an enumeration or a string in its contexts or its payload"),
+        FaultKind::NoUuid => Some(
+            "a UUID of the trace type, or with `auto` one from the caller (--uuid of `metadata` and `trace`)",
         ),
-        FaultKind::NoUuid => (
-            None,
-            Some(
-                "a UUID of the trace type, or with `auto` one from the caller (--uuid of `metadata` and `trace`)",
-            ),
-        ),
-        FaultKind::TwoOrders => (
-            None,
-            Some("only one of `trace-byte-order` and `native-byte-order`"),
-        ),
+        FaultKind::TwoOrders => Some("only one of `trace-byte-order` and `native-byte-order`"),
         FaultKind::NotJson
+        | FaultKind::TooDeep
         | FaultKind::WrongKind
         | FaultKind::NotWhole
         | FaultKind::Missing
+        | FaultKind::Unknown
+        | FaultKind::BadName
+        | FaultKind::NameClash
         | FaultKind::NoSuchAlias
         | FaultKind::OutOfRange
         | FaultKind::FieldTooSmall
         | FaultKind::NoClock
         | FaultKind::Limit
         | FaultKind::TimestampSize
-        | FaultKind::OutOfMemory => (None, None),
+        | FaultKind::OutOfMemory => None,
     }
 }
 
@@ -194,7 +213,7 @@ fn has_control(text: &str) -> bool
 
 /// Whether a value of this content can be a whole number.
 #[tactic(auto, unfolding(crate::specs::Wanted::can_be_whole))]
-fn is_whole(content: Option<Content>) -> bool
+pub(crate) fn is_whole(content: Option<Content>) -> bool
     ensures { result ≡ can_be_whole content }
 {
     matches!(
@@ -211,7 +230,7 @@ fn is_whole(content: Option<Content>) -> bool
 /// Adds what was expected where a value is out of range.
 #[tactic(auto, unfolding(crate::specs::Wanted::IsInRange))]
 fn push_in_range(said: &mut String, found: &Found<'_>) -> Result<(), AllocError>
-    ensures { OnOk result (Adds (IsInRange found.now.content found.now.position) (string_bytes said.old) (string_bytes said.new)) }
+    ensures { OnOk result (Adds (IsInRange found.now.source.text.now found.now.content found.now.position) (string_bytes said.old) (string_bytes said.new)) }
 {
     match found.content {
         Some(Content::Word(choice)) => push_choice(said, found, words_in(choice)),
@@ -222,7 +241,7 @@ fn push_in_range(said: &mut String, found: &Found<'_>) -> Result<(), AllocError>
 
 /// Adds the words allowed, and the one most like what stands there.
 fn push_choice(said: &mut String, found: &Found<'_>, words: &[&str]) -> Result<(), AllocError>
-    ensures { OnOk result (Adds (IsChoice (map (λ w. w.now) words.now)) (string_bytes said.old) (string_bytes said.new)) }
+    ensures { OnOk result (Adds (IsChoice found.now.source.text.now (map (λ w. w.now) words.now)) (string_bytes said.old) (string_bytes said.new)) }
 {
     push_words(said, words)?;
     let Some(word) = found.source.text_of(found.layer().at)? else {
@@ -249,14 +268,20 @@ fn push_properties(said: &mut String, found: &Found<'_>, name: &str) -> Result<(
 
 /// Adds the aliases that can stand where none has the name that does; in the value of the alias `own` it is none of them.
 fn push_known_alias(said: &mut String, found: &Found<'_>, own: &str) -> Result<(), AllocError>
-    ensures { OnOk result (Adds (IsKnownName (alias_thing_of own.now found.now.content) own.now) (string_bytes said.old) (string_bytes said.new)) }
+    ensures { OnOk result (Adds (IsKnownName found.now.source.text.now (alias_thing_of own.now found.now.content) (map_of_aliases found.now.content) own.now) (string_bytes said.old) (string_bytes said.new)) }
 {
     let thing = alias_thing(own, found.content);
-    let map = match found.content {
+    push_known(said, found, thing, alias_map(found.content), own)
+}
+
+/// The map of the trace type in which the aliases stand that a value of this content can name.
+fn alias_map(content: Option<Content>) -> &'static str
+    ensures { result.now ≡ map_of_aliases content }
+{
+    match content {
         Some(Content::Level { .. }) => "$log-level-aliases",
         _ => "$field-type-aliases",
-    };
-    push_known(said, found, thing, map, own)
+    }
 }
 
 /// What an alias is called beside the alias `own`, in whose value its name would stand.
@@ -269,159 +294,4 @@ fn alias_thing(own: &str, content: Option<Content>) -> &'static str
         _ if own.is_empty() => "a field type alias",
         _ => "another field type alias",
     }
-}
-
-#[tactic(auto, unfolding(crate::specs::Wanted::limit_words))]
-fn push_limit(said: &mut String, found: &Found<'_>) -> Result<(), AllocError>
-    ensures { OnOk result (string_bytes said.new ≡ string_bytes said.old ++ limit_words found.now.content found.now.position) }
-{
-    match found.content {
-        Some(Content::At(place)) => push_most(said, found, place),
-        _ => push_expected(said, found),
-    }
-}
-
-fn push_most(said: &mut String, found: &Found<'_>, place: Place) -> Result<(), AllocError>
-    ensures { OnOk result (string_bytes said.new ≡ string_bytes said.old ++ most_words place (option_and_then (λ e. e.most) (entries_of place))) }
-{
-    match entries(place).and_then(|entries| entries.most) {
-        Some(most) => said.push_str(format!(in found.source.alloc;
-            "{most} entries at most"
-        )?.as_str()),
-        None => said.push_str(size_words(place)),
-    }
-}
-
-/// What a value can hold at most where the table sets no limit to its entries.
-#[tactic(auto, unfolding(crate::specs::Wanted::size_words))]
-fn size_words(place: Place) -> &'static str
-    ensures { result.now ≡ size_words place }
-{
-    match place {
-        Place::Mappings => "at most 1024 ranges",
-        Place::Ranges => "a label of at most 4096 bytes",
-        Place::MemberType | Place::DynamicElementType | Place::IdentifierFeature =>
-            "at most 8 arrays in one another, 1048576 elements, and 4096 values with what is inherited",
-        _ => "at most 4096 values with what is inherited",
-    }
-}
-
-/// Adds what helps where a property is missing, or a name is at fault.
-fn push_hint(
-    said: &mut String,
-    found: &Found<'_>,
-    fault: &ConfFault,
-    name: &str,
-) -> Result<(), AllocError>
-    requires { name.now ≡ name_of_end fault.now.path }
-    ensures { OnOk result (Adds (IsHint fault.now.kind fault.now.path) (string_bytes said.old) (string_bytes said.new)) }
-{
-    match fault.kind {
-        FaultKind::Missing => push_missing_hint(said, found, fault.path.as_slice(), name),
-        FaultKind::NameClash => push_clash_hint(said, found.source, fault.path.as_slice(), name),
-        FaultKind::Unknown => {
-            if name != "$include" {
-                return Ok(());
-            }
-            said.push_str("; tools/yaml_to_json puts in what `$include` names")
-        }
-        FaultKind::BadName => {
-            if !name.as_bytes().contains(&b'-') {
-                return Ok(());
-            }
-            said.push_str("; a hyphen stands in no name, `_` does")
-        }
-        _ => Ok(()),
-    }
-}
-
-fn push_missing_hint(
-    said: &mut String,
-    found: &Found<'_>,
-    path: &[Step],
-    name: &str,
-) -> Result<(), AllocError>
-    ensures { OnOk result (Adds (IsMissingHint path.now name.now) (string_bytes said.old) (string_bytes said.new)) }
-{
-    if path.len() == 1 && is_of_barectf_2(found.source)? {
-        return said.push_str(
-            "; this looks like a configuration of barectf 2, and ctftrace reads those of barectf 3",
-        );
-    }
-    let unknown = unknown_names(found)?;
-    let words: Vec<&str> = unknown
-        .iter()
-        .map(|name| name.as_str())
-        .collect(found.source.alloc)?;
-    let Some(word) = nearest(name, words.as_slice(), name.len().saturating_sub(1) / 2) else {
-        return Ok(());
-    };
-    said.push_str("; there is `")?;
-    push_cut(said, word)?;
-    said.push_str("`")
-}
-
-/// The properties of an object that it cannot have.
-fn unknown_names(found: &Found<'_>) -> Result<Vec<String>, AllocError> {
-    let mut unknown = Vec::new(found.source.alloc);
-    for layer in found.layers.iter() {
-        let names = found.source.names(*layer)?;
-        let mut others: Vec<String> = names
-            .into_iter()
-            .filter(|name| content(found.holder, name.as_str()).is_none())
-            .collect(found.source.alloc)?;
-        unknown.append(&mut others)?;
-    }
-    Ok(unknown)
-}
-
-/// Adds whose the name is where the list of members does not show it.
-fn push_clash_hint(
-    said: &mut String,
-    source: Source<'_>,
-    path: &[Step],
-    name: &str,
-) -> Result<(), AllocError>
-    ensures { OnOk result (Adds (IsClashHint name.now) (string_bytes said.old) (string_bytes said.new)) }
-{
-    if let [.., Step::Key(list), Step::Index(_), Step::Key(_)] = path
-        && list.as_str() == "packet-context-field-type-extra-members"
-        && is_of_packets(name)
-    {
-        return said.push_str(
-            "; a packet context has `packet_size`, `content_size`, `timestamp_begin`, `timestamp_end`, `events_discarded` and `packet_seq_num` itself, with its features on or off",
-        );
-    }
-    if name.starts_with("__") && name.ends_with("_len") {
-        return said.push_str("; a dynamic array `x` takes `__x_len` too");
-    }
-    let length = format!(in source.alloc; "__{name}_len")?;
-    let list = source.find(&path[..path.len().saturating_sub(2)])?;
-    if !list.has_entry(length.as_str())? {
-        return Ok(());
-    }
-    said.push_str("; a dynamic array `")?;
-    push_cut(said, name)?;
-    said.push_str("` takes `")?;
-    push_cut(said, length.as_str())?;
-    said.push_str("` too")
-}
-
-/// Whether a packet context has a member of this name itself, with its features on or off.
-fn is_of_packets(name: &str) -> bool {
-    matches!(
-        name,
-        "packet_size"
-            | "content_size"
-            | "timestamp_begin"
-            | "timestamp_end"
-            | "events_discarded"
-            | "packet_seq_num"
-    )
-}
-
-/// Whether the configuration has a property of barectf 2.
-fn is_of_barectf_2(source: Source<'_>) -> Result<bool, AllocError> {
-    let root = source.root();
-    Ok(source.member(root, "metadata")?.is_some() || source.member(root, "version")?.is_some())
 }

@@ -4,7 +4,7 @@ ghost use Rattle.std.specs.Prelude.{◌≡◌, ◌++◌, IfOk, OnOk, string_byte
 ghost use Rattle.conf_fault.specs.Explanation.{Adds, IsAliasWords, IsExplanation, IsNamedValue, IsPlaced, IsSaidOf, IsStanding, IsValueWords, IsWritten, path_words, step_words};
 ghost use Rattle.conf_fault.specs.Shown.{IsOneLine};
 
-use crate::by_kind::{is_of_label, kind_words, wanted_words};
+use crate::by_kind::{is_of_label, name_words, wanted_words};
 use crate::found::Found;
 use crate::layers::Layer;
 use crate::line_column::{line_column, push_place};
@@ -92,7 +92,7 @@ fn push_alias(source: Source<'_>, said: &mut String, alias: Option<usize>) -> Re
 fn push_standing(said: &mut String, found: &Found<'_>, fault: &ConfFault) -> Result<(), AllocError>
     ensures { OnOk result (Adds (IsStanding fault.now.kind) (string_bytes said.old) (string_bytes said.new)) }
 {
-    match kind_words(fault.kind).0 {
+    match name_words(fault.kind) {
         Some(words) => said.push_str(words),
         None => push_value(said, found, fault),
     }
@@ -138,7 +138,7 @@ fn push_written(said: &mut String, source: Source<'_>, at: usize) -> Result<(), 
 
 /// Where a fault stands: at the name of the value where that is at fault, or else at the value.
 fn place_at_fault(found: &Found<'_>, layer: Layer, fault: &ConfFault) -> usize {
-    if kind_words(fault.kind).0.is_some() || is_of_label(found, fault) {
+    if name_words(fault.kind).is_some() || is_of_label(found, fault) {
         layer.key
     } else {
         layer.at

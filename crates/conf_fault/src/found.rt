@@ -1,6 +1,9 @@
 //! The walk along a fault's path over the text.
 
-use crate::layers::{Layer, Layering, holds_field_type};
+ghost use Rattle.std.specs.Prelude.{◌≡◌, IfOk, IsTrue, OnOk, is_some};
+ghost use Rattle.conf_fault.specs.Found.{IsHolder, IsNext, Leads, content_behind as content_one_further, end_of, is_position, laid_content as content_laid, outermost, position_of as place_of_content};
+
+use crate::layers::{Layer, Layering, can_be_field_type, holds_field_type};
 use crate::source::Source;
 use conf_table::{Content, Place, class_place, content, entries};
 use conf_tree::{FaultKind, Step};
@@ -38,6 +41,37 @@ impl<'t> Found<'t> {
         }
     }
 
+    /// The place of the class that the field type there has, or its position where it has none.
+    pub(crate) fn class(&self) -> Result<Place, AllocError> {
+        let position = position_of(self.content);
+        self.source.class_of(self.layers.as_slice(), position)
+    }
+
+    /// The whole number that the field type there has under a name.
+    pub(crate) fn number(&self, name: &str) -> Result<Option<u64>, AllocError> {
+        for layer in self.layers.iter() {
+            if let Some(member) = self.source.member(*layer, name)? {
+                let value = self.source.value_of(member.at)?;
+                return Ok(value.and_then(|value| value.as_u64()));
+            }
+        }
+        Ok(None)
+    }
+
+    /// The first entry of the members list there that has this name, but the one at an index. None where the list is joined to others.
+    pub(crate) fn other_entry(&self, own: usize, name: &str) -> Result<Option<usize>, AllocError> {
+        if self.layers.len() > 1 {
+            return Ok(None);
+        }
+        let entries = self.source.children(self.layer(), b'[')?;
+        for index in 0..entries.len() {
+            if index != own && self.source.member(entries[index], name)?.is_some() {
+                return Ok(Some(index));
+            }
+        }
+        Ok(None)
+    }
+
     /// Whether the members lists there have an entry of this name.
     pub(crate) fn has_entry(&self, name: &str) -> Result<bool, AllocError> {
         for list in self.layers.iter() {
@@ -50,8 +84,11 @@ impl<'t> Found<'t> {
 }
 
 impl<'t> Source<'t> {
-    /// The value to which the path leads, or the last one on the way that is there.
-    pub(crate) fn find(&self, path: &[Step]) -> Result<Found<'t>, AllocError> {
+    /// What stands where the path leads, or the last value on the way that is there.
+    pub(crate) fn find(&self, path: &[Step]) -> Result<Found<'t>, AllocError>
+        ensures ends { IfOk result (λ found. Leads self.now.text.now outermost path.now (end_of found)) }
+        ensures source { IfOk result (λ found. found.source ≡ self.now) }
+    {
         let mut layers = Vec::new(self.alloc);
         layers.push(self.root())?;
         let mut found = Found {
@@ -65,67 +102,130 @@ impl<'t> Source<'t> {
         };
         let layering = Layering::of(*self)?;
         for index in 0..path.len() {
-            if !self.step(&layering, &mut found, &path[index], path.get(index + 1))? {
-                break;
-            }
+            self.step(&layering, &mut found, &path[index], path.get(index + 1))?;
         }
         Ok(found)
     }
 
-    /// Goes one step further. False where nothing is there.
+    /// Goes one step further: in the table, and to the value where one is there.
     fn step(
         &self,
         layering: &Layering<'_>,
         found: &mut Found<'_>,
         step: &Step,
         next: Option<&Step>,
-    ) -> Result<bool, AllocError> {
-        let position = found.content.map_or(Place::Ignored, Content::place);
-        let holder = self.class_of(found.layers.as_slice(), position)?;
-        let told = match step {
-            Step::Key(name) => {
-                let laid = laid_content(holder, name.as_str(), next.is_some());
-                content(holder, name.as_str()).or(laid)
-            }
-            Step::Index(_) => entries(holder).map(|entries| entries.content),
-        };
-        let inner = self.inside(found.layers.as_slice(), holder, step, next)?;
-        let used = inner.first().copied();
-        let place = told.map_or(Place::Ignored, Content::place);
-        let layers = layering.followed(inner, place)?;
+    ) -> Result<(), AllocError>
+        ensures next { OnOk result (IsNext self.now.text.now step.now (is_some next.entry) (end_of found.old) (end_of found.new)) }
+        ensures source { OnOk result (found.new.source ≡ found.old.source) }
+    {
+        let position = position_of(found.content);
+        let holder = self.holder_at(found, position)?;
+        let content = content_behind(holder, step, next.is_some());
+        if found.is_there {
+            let inner = self.inside(found.layers.as_slice(), holder, step, next)?;
+            layering.go_in(found, inner, position_of(content))?;
+        }
         found.position = position;
         found.holder = holder;
-        found.content = told;
+        found.content = content;
+        Ok(())
+    }
+
+    /// The place that holds what is inside of a value at a position: the position itself where no value is there.
+    fn holder_at(&self, found: &Found<'_>, position: Place) -> Result<Place, AllocError>
+        ensures { IfOk result (IsHolder self.now.text.now position) }
+    {
+        if !found.is_there {
+            return Ok(position);
+        }
+        self.class_of(found.layers.as_slice(), position)
+    }
+
+    /// The place that a value at a position is: a field type by its class, where the class is known.
+    fn class_of(&self, layers: &[Layer], position: Place) -> Result<Place, AllocError>
+        ensures { IfOk result (IsHolder self.now.text.now position) }
+    {
+        if !can_be_field_type(position) {
+            return Ok(position);
+        }
+        for layer in layers {
+            if let Some(class) = self.member(*layer, "class")? {
+                return self.class_at(class.at, position);
+            }
+        }
+        Ok(position)
+    }
+
+    /// The place of the class whose word stands in the text, or the position where there is no such class.
+    fn class_at(&self, at: usize, position: Place) -> Result<Place, AllocError>
+        requires { IsTrue (is_position position) }
+        ensures { IfOk result (IsHolder self.now.text.now position) }
+    {
+        let Some(word) = self.text_of(at)? else {
+            return Ok(position);
+        };
+        Ok(class_place(word.as_str()).unwrap_or(position))
+    }
+}
+
+impl<'t> Layering<'t> {
+    /// Goes to the first of these values, where there is one, and to those that it is laid over.
+    fn go_in(
+        &self,
+        found: &mut Found<'_>,
+        inner: Vec<Layer>,
+        place: Place,
+    ) -> Result<(), AllocError>
+        ensures end { end_of found.new ≡ end_of found.old }
+        ensures source { found.new.source ≡ found.old.source }
+    {
+        let used = inner.first().copied();
+        let layers = self.followed(inner, place)?;
         found.is_there = !layers.is_empty();
         found.name = used.filter(|name| layers.first().is_some_and(|layer| layer.at != name.at));
         if found.is_there {
             found.layers = layers;
         }
-        Ok(found.is_there)
+        Ok(())
     }
+}
 
-    /// The place that a value at a position is: a field type by its class, where the class is known.
-    fn class_of(&self, layers: &[Layer], position: Place) -> Result<Place, AllocError> {
-        if !holds_field_type(position) || position == Place::Member {
-            return Ok(position);
+/// Where a value of this content stands. Of what the table says nothing of, nothing inside is told.
+fn position_of(content: Option<Content>) -> Place
+    ensures { result ≡ place_of_content content }
+{
+    match content {
+        Some(content) => content.place(),
+        None => Place::Ignored,
+    }
+}
+
+/// What the table says of the value one step into a place.
+fn content_behind(holder: Place, step: &Step, leads_on: bool) -> Option<Content>
+    ensures { result ≡ content_one_further holder step.now leads_on }
+{
+    match step {
+        Step::Key(name) => {
+            let laid = laid_content(holder, name.as_str(), leads_on);
+            content(holder, name.as_str()).or(laid)
         }
-        for layer in layers {
-            if let Some(class) = self.member(*layer, "class")? {
-                let word = self.text_of(class.at)?;
-                let class = word.and_then(|word| class_place(word.as_str()));
-                return Ok(class.unwrap_or(position));
-            }
-        }
-        Ok(position)
+        Step::Index(_) => entries(holder).map(|entries| entries.content),
     }
 }
 
 /// What a property is that is laid over what a field type inherits before its class is looked at: members, and what stands in an element's field type.
-fn laid_content(holder: Place, name: &str, leads_on: bool) -> Option<Content> {
-    match name {
-        _ if !holds_field_type(holder) => None,
-        "members" => content(Place::Structure, name),
-        "element-field-type" if leads_on => content(Place::StaticArray, name),
-        _ => None,
+#[tactic(auto, unfolding(crate::specs::Found::laid_content))]
+fn laid_content(holder: Place, name: &str, leads_on: bool) -> Option<Content>
+    ensures { result ≡ content_laid holder name.now leads_on }
+{
+    if !holds_field_type(holder) {
+        return None;
     }
+    if name == "members" {
+        return content(Place::Structure, name);
+    }
+    if name == "element-field-type" && leads_on {
+        return content(Place::StaticArray, name);
+    }
+    None
 }

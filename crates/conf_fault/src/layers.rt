@@ -1,13 +1,13 @@
 //! Where the parts of a field type stand that inherits: a value, and what it is laid over.
 
+ghost use Rattle.std.specs.Prelude.{◌≡◌};
+ghost use Rattle.conf_fault.specs.Found.{holds_field_type, is_position};
+
 use crate::source::Source;
 use conf_table::Place;
-use conf_tree::Step;
+use conf_tree::{MAX_VALUES, Step};
 use std::alloc::AllocError;
 use std::collections::BTreeMap;
-
-/// More values than a chain of aliases and bases in an accepted configuration can have.
-const MOST_LAYERS: usize = 4096;
 
 /// A value as the text has it, which may be laid over others.
 #[derive(Clone, Copy, Default)]
@@ -20,10 +20,17 @@ pub(crate) struct Layer {
 }
 
 /// Whether the name of an alias or an object that inherits can stand here.
-pub(crate) fn holds_field_type(place: Place) -> bool {
-    place.is_class()
-        || place == Place::Member
-        || place.admits(Place::Structure)
+pub(crate) fn holds_field_type(place: Place) -> bool
+    ensures { result ≡ holds_field_type place }
+{
+    place.is_class() || place == Place::Member || can_be_field_type(place)
+}
+
+/// Whether a field type of some class can stand at this position.
+pub(crate) fn can_be_field_type(place: Place) -> bool
+    ensures { result ≡ is_position place }
+{
+    place.admits(Place::Structure)
         || place.admits(Place::UnsignedInteger)
         || place.admits(Place::StaticArray)
 }
@@ -98,11 +105,12 @@ impl<'t> Layering<'t> {
         }
     }
 
-    /// Adds a value and what it inherits from. False where nothing behind it counts any more.
+    /// Adds a value and what it inherits from. False where nothing behind it counts any more. A chain of an accepted configuration has fewer links than
+    /// its field type has values.
     fn follow(&self, first: Layer, all: &mut Vec<Layer>) -> Result<bool, AllocError> {
         let mut layer = first;
         let mut mark = first.at;
-        for hop in 0..MOST_LAYERS {
+        for hop in 0..MAX_VALUES {
             if hop.is_power_of_two() {
                 mark = layer.at;
             }

@@ -5,6 +5,7 @@ mod by_kind;
 mod expected;
 mod explanation;
 mod found;
+mod hints;
 mod json_front;
 mod layers;
 mod line_column;
@@ -12,6 +13,7 @@ mod named;
 mod not_json;
 mod path;
 mod shown;
+mod sizes;
 mod source;
 
 pub use explanation::explain_fault;

@@ -1,7 +1,9 @@
 //! What a configuration has under the names that a fault is about: aliases, clock types, and the types that have numbers.
 
-ghost use Rattle.std.specs.Prelude.{◌≡◌, OnOk, string_bytes};
+ghost use Rattle.std.specs.Prelude.{◌≡◌, IfOk, OnOk, map, option_map, string_bytes};
+ghost use Rattle.serde_json.specs.View.{members_view, view};
 ghost use Rattle.conf_fault.specs.Explanation.{Adds};
+ghost use Rattle.conf_fault.specs.Names.{known_names as names_known, map_of as map_in, other_names as names_but};
 ghost use Rattle.conf_fault.specs.Wanted.{IsKnownName, IsLargestNumber, IsRoom, end_name as name_of_end, numbered_types as types_of};
 
 use crate::expected::{push_names, push_nearest};
@@ -9,35 +11,72 @@ use crate::found::Found;
 use crate::path::end_name;
 use crate::source::Source;
 use conf_tree::Step;
-use serde_json::Value;
-use std::alloc::AllocError;
+use serde_json::{Map, Value};
+use std::alloc::{AllocError, Global};
 
 /// Adds that the name of such a thing is expected, and the names but `own` that the map of the trace type has, with the one most like what stands there.
 pub(crate) fn push_known(
     said: &mut String,
     found: &Found<'_>,
     thing: &str,
-    map: &str,
+    map_name: &str,
     own: &str,
 ) -> Result<(), AllocError>
-    ensures { OnOk result (Adds (IsKnownName thing.now own.now) (string_bytes said.old) (string_bytes said.new)) }
+    ensures { OnOk result (Adds (IsKnownName found.now.source.text.now thing.now map_name.now own.now) (string_bytes said.old) (string_bytes said.new)) }
 {
     let source = found.source;
-    let names = match source.property(&[map])? {
-        Some(map) => source.names(map)?,
-        None => Vec::new(source.alloc),
-    };
-    let words: Vec<&str> = names
-        .iter()
-        .filter(|name| name.as_str() != own)
-        .map(|name| name.as_str())
-        .collect(source.alloc)?;
+    let tree = source.tree()?;
+    let words = known_names(source.alloc, &tree, map_name, own)?;
     said.push_str(format!(in source.alloc; "the name of {thing} (there are ")?.as_str())?;
     push_names(said, source.alloc, words.as_slice())?;
     said.push(')')?;
-    let word = source.text_of(found.layer().at)?;
-    let word = word.as_ref().map_or("", |word| word.as_str());
-    push_nearest(said, word, words.as_slice())
+    let Some(word) = source.text_of(found.layer().at)? else {
+        return Ok(());
+    };
+    push_nearest(said, word.as_str(), words.as_slice())
+}
+
+/// The names but `own` in the map of the trace type, in byte order.
+fn known_names<'v>(
+    alloc: Global,
+    tree: &'v Option<Value>,
+    map_name: &str,
+    own: &str,
+) -> Result<Vec<&'v str>, AllocError>
+    ensures { IfOk result (λ names. map (λ n. n.now) names.items ≡ names_known map_name.now own.now (option_map view tree.now)) }
+{
+    let Some(tree) = tree else {
+        return Ok(Vec::new(alloc));
+    };
+    match map_of(tree, map_name) {
+        Some(members) => other_names(alloc, members, own),
+        None => Ok(Vec::new(alloc)),
+    }
+}
+
+/// The names of members but `own`.
+fn other_names<'v>(
+    alloc: Global,
+    members: &'v Map<String, Value>,
+    own: &str,
+) -> Result<Vec<&'v str>, AllocError>
+    ensures { IfOk result (λ names. map (λ n. n.now) names.items ≡ names_but own.now (members_view members.now.entries)) }
+{
+    let mut names = Vec::new(alloc);
+    for (name, _value) in members.iter() {
+        if name.as_str() != own {
+            names.push(name.as_str())?;
+        }
+    }
+    Ok(names)
+}
+
+/// The map of this name that the trace type has.
+#[tactic(auto, unfolding(crate::specs::Names::map_of))]
+fn map_of<'v>(tree: &'v Value, name: &str) -> Option<&'v Map<String, Value>>
+    ensures { option_map (λ m. members_view m.now.entries) result ≡ map_in name.now (view tree.now) }
+{
+    tree.get("trace")?.get("type")?.get(name)?.as_object()
 }
 
 /// Adds that a feature has to be on, where it is off, and which number its field has to hold.

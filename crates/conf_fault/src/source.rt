@@ -1,6 +1,10 @@
 //! The text of a configuration, by the places of its values.
 
-ghost use Rattle.std.specs.Prelude.{◌≤◌, length};
+ghost use Rattle.std.specs.Prelude.{◌≤◌, ℕ, drop, length, take, IfOk, IfSome, option_map, string_bytes};
+ghost use Rattle.serde_json.specs.View.{view};
+ghost use Rattle.conf_tree.specs.Walk.{Reads};
+ghost use Rattle.conf_fault.specs.Found.{StandsIn};
+ghost use Rattle.conf_fault.specs.Names.{IsRead};
 
 use crate::layers::Layer;
 use serde_json::Value;
@@ -26,16 +30,29 @@ impl<'t> Source<'t> {
         }
     }
 
-    /// The value that begins at a place.
-    pub(crate) fn value_of(&self, at: usize) -> Result<Option<Value>, AllocError> {
-        let Some(text) = self.text.get(at..) else {
-            return Ok(None);
-        };
-        match Value::from_slice(self.alloc, &text[..value_length(text)]) {
-            Ok(value) => Ok(Some(value)),
+    /// The value that the whole text is, where it is JSON.
+    pub(crate) fn tree(&self) -> Result<Option<Value>, AllocError>
+        ensures { IfOk result (λ tree. IsRead self.now.text.now (option_map view tree)) }
+    {
+        match Value::from_slice(self.alloc, self.text) {
+            Ok(tree) => Ok(Some(tree)),
             Err(error) if error.is_memory() => Err(AllocError),
             Err(_) => Ok(None),
         }
+    }
+
+    /// The value that begins at a place.
+    pub(crate) fn value_of(&self, at: usize) -> Result<Option<Value>, AllocError>
+        ensures { IfOk result (λ found. IfSome found (λ value. (count : ℕ) × Reads (take count (drop at self.now.text.now)) (view value))) }
+    {
+        let Some(text) = self.text.get(at..) else {
+            return Ok(None);
+        };
+        let value = Source {
+            text: &text[..value_length(text)],
+            ..*self
+        };
+        value.tree()
     }
 
     /// The value at a place as it is written, without the white space between its parts.
@@ -60,7 +77,9 @@ impl<'t> Source<'t> {
     }
 
     /// The text that the value at a place is.
-    pub(crate) fn text_of(&self, at: usize) -> Result<Option<String>, AllocError> {
+    pub(crate) fn text_of(&self, at: usize) -> Result<Option<String>, AllocError>
+        ensures { IfOk result (λ found. IfSome found (λ word. StandsIn self.now.text.now (string_bytes word))) }
+    {
         if !self.is(at, b'"') {
             return Ok(None);
         }

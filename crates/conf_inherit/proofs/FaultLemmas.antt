@@ -5,6 +5,7 @@ use Rattle.std.specs.{Prelude.⊤, Borrow.Bor, BTreeMap.{is_at, insert_entry}, C
 use Rattle.serde_json.specs.{Data.{Data, null, string, array, object, Items, no_items, item, Members, no_members, member, put}, Find.{get_member, get_item}}
 use Rattle.serde_json.specs.{View.{view, items_view}, declared.value.Value.{Value, Array}}
 use Rattle.serde_json.proofs.Views.{get_member-put, get_member-put_other, items_len-items_view, view-Array}
+use Rattle.ctf_types.specs.declared.limits.TheConstants.{MAX_CONFIG_MEMBERS}
 use Rattle.conf_tree.specs.{Flaw.{key, index, within, Flaw, Place as Step, here}, Walk.{HasMember, refusal}}
 use Rattle.conf_tree.specs.declared.fault_kind.FaultKind.{FaultKind}
 use Rattle.conf_tree.specs.declared.fault_kind.FaultKind.TheVariants.{WrongKind, NoSuchAlias, NameClash, Limit}
@@ -448,5 +449,5 @@ looked_for n (e ∷ es) = elim (stands n e.0.now) [ inl is ↦ rw is (looked_for
 
 -- ---- a list that is counted
 
-pub counted : (s : Place) (v : Value) (vs : Vec Value Global) (n : ℕ) (extras : Bool) → extras ≡ lists_extra_members s → extras ≡ true → v ≡ Array vs → n ≡ length vs.items → nat_lt 256 n ≡ is_crowded s (view v)
+pub counted : (s : Place) (v : Value) (vs : Vec Value Global) (n : ℕ) (extras : Bool) → extras ≡ lists_extra_members s → extras ≡ true → v ≡ Array vs → n ≡ length vs.items → nat_lt MAX_CONFIG_MEMBERS n ≡ is_crowded s (view v)
 counted s v vs n extras at are is many = rw (ap view is ∙ view-Array vs, items_len-items_view vs.items, ← at, are, many) refl

@@ -4,11 +4,12 @@ use Rattle.std.proofs.lemmas.Bool.{and_parts, cases_Bool, or_cases, or_left, ltb
 use Rattle.serde_json.specs.{Data.{Data, string, array, object, Items, no_items, item, Members, no_members, member, depth}, Find.{get, get_member}}
 use Rattle.conf_tree.specs.{Flaw.{key, index, within, Flaw, here}, declared.fault_kind.FaultKind.FaultKind}
 use Rattle.conf_tree.specs.{Walk.refusal, declared.fault_kind.FaultKind.TheVariants.{TooDeep, Limit, WrongKind, NoSuchAlias, NameClash}}
+use Rattle.conf_tree.specs.declared.limits.TheConstants.{MAX_LEVELS, MAX_VALUES}
 use Rattle.conf_table.specs.declared.place.Place.{Place}
 use Rattle.conf_inherit.specs.FieldPlaces.{place_under, place_of_items, names_alias, names_type, is_base_name, lists_members, is_entry}
 use Rattle.conf_inherit.specs.{Flaws.{is_wrong, known_in, name_fault, is_crowded, fault_or, own_flaws, limits, is_alone, alone_flaws, is_outside, inner_flaws, item_flaws, member_flaws, value_flaws, type_flaws, mark, flaws}, Size.size}
 use Rattle.conf_inherit.specs.Laying.{members_below, items_below, lay_text, lay, lay_base, lay_members, lay_over, lay_over_member, lay_new, lay_new_member}
-use Rattle.conf_inherit.specs.Limits.{fitting, passed, limit_flaws, max_values, max_levels, Fits, Exceeds, Inherits, InheritsInItems, InheritsInMembers}
+use Rattle.conf_inherit.specs.Limits.{fitting, passed, limit_flaws, Fits, Exceeds, Inherits, InheritsInItems, InheritsInMembers}
 use Rattle.conf_inherit.specs.{Named.{all_named, all_named_in_items, all_named_in_members, has}, Names.{join_items, map_items, entries_of, properties_of}, Faults.Leads}
 use Rattle.conf_inherit.proofs.FaultLemmas.{named_along, same_part, part_empty, joined_empty, Each, no_flaw, a_flaw, joined, first_told, IsTold, flaws_told}
 use Rattle.conf_inherit.proofs.{LayingLemmas.{same_function, over_entries, new_entries, AllEntries, all_joined}, FieldPlaceLemmas.{list_place, entry_place, base_place, alias_place}, WorkedPlaces.{LeadsElsewhere, under_elsewhere, items_elsewhere, not_crowded}}
@@ -169,12 +170,12 @@ pub data Judged (r : Data) : Result Data FaultKind → Type 0 where
   exceeds : (kind : FaultKind) → Exceeds kind r → Judged r (Err kind)
 
 pub judged : (r : Data) → Judged r (fitting r)
-judged r = go (nat_lt max_values (size r)) refl (nat_lt max_levels (depth r)) refl
+judged r = go (nat_lt MAX_VALUES (size r)) refl (nat_lt MAX_LEVELS (depth r)) refl
   where
-    go : (a : Bool) → nat_lt max_values (size r) ≡ a → (b : Bool) → nat_lt max_levels (depth r) ≡ b → Judged r (fitting r)
-    go true is b deep = rw is (exceeds Limit (ltb-true max_values (size r) is))
-    go false is true deep = rw (is, deep) (exceeds TooDeep (ltb-true max_levels (depth r) deep))
-    go false is false flat = rw (is, flat) (fits (ltb-false max_values (size r) is, ltb-false max_levels (depth r) flat))
+    go : (a : Bool) → nat_lt MAX_VALUES (size r) ≡ a → (b : Bool) → nat_lt MAX_LEVELS (depth r) ≡ b → Judged r (fitting r)
+    go true is b deep = rw is (exceeds Limit (ltb-true MAX_VALUES (size r) is))
+    go false is true deep = rw (is, deep) (exceeds TooDeep (ltb-true MAX_LEVELS (depth r) deep))
+    go false is false flat = rw (is, flat) (fits (ltb-false MAX_VALUES (size r) is, ltb-false MAX_LEVELS (depth r) flat))
 
 -- no type fits that is past a limit
 pub apart_fits : (kind : FaultKind) (r : Data) → Fits r → Exceeds kind r → ⊥

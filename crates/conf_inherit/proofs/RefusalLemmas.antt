@@ -6,6 +6,7 @@ use Rattle.serde_json.specs.{Data.{Data, array, object, Members, no_members, mem
 use Rattle.serde_json.specs.Find.{get, get_member}
 use Rattle.conf_tree.specs.{Flaw.{Flaw, key, here, within, Place as Step}, Reading.◌>>=◌, Walk.{HasMember, refusal, IsTreeOf}}
 use Rattle.conf_tree.specs.{declared.fault_kind.FaultKind.FaultKind, declared.fault_kind.FaultKind.TheVariants.{InheritCycle, Limit, WrongKind, NoSuchAlias}}
+use Rattle.conf_tree.specs.declared.limits.TheConstants.{MAX_LEVELS}
 use Rattle.conf_table.specs.{declared.place.Place.Place, Table.{content_under, entries_of, rows_of, place_in}}
 use Rattle.conf_inherit.specs.FieldPlaces.{field_place, place_under, names_type, is_base_name}
 use Rattle.conf_inherit.specs.{AliasFlaws.{open_in, is_circle, first_or_circle, alias_flaws, all_alias_flaws}, Flaws.{known_in, is_alone, value_flaws, asked_flaws, type_flaws, whole_flaws}, Looks.{AreResolved, Looks}, Names.NoClash}
@@ -125,8 +126,8 @@ err_then : (a : Result ⊤ Flaw) (k : ⊤ → Result Data Flaw) (f : Flaw) → (
 err_then (Ok x) k f h = inr (refl, h)
 err_then (Err g) k f h = inl (let e : g ≡ f = cc in ap (λ x. Err x) e)
 
-err_shallow : (x : Data) (f : Flaw) → if_shallow x ≡ Err f → PassesDepth 32 x f
-err_shallow x f h = elim (err_then (refusal (deep_flaws x 32)) (λ a. Ok x) f h) [ inl e ↦ first_told f (deep_told x 32) e | inr e ↦ absurd (let o : Result Data Flaw = Ok x in let bad : o ≡ Err f = e.1 in cc) ]
+err_shallow : (x : Data) (f : Flaw) → if_shallow x ≡ Err f → PassesDepth MAX_LEVELS x f
+err_shallow x f h = elim (err_then (refusal (deep_flaws x MAX_LEVELS)) (λ a. Ok x) f h) [ inl e ↦ first_told f (deep_told x MAX_LEVELS) e | inr e ↦ absurd (let o : Result Data Flaw = Ok x in let bad : o ≡ Err f = e.1 in cc) ]
 
 module _ (t : Data) (f : Flaw) (apart : NoClash (aliases_of t)) where
   alias_refused : (g : Flaw) → refusal (all_alias_flaws (aliases_of t) (rounds_of t) (aliases_of t)) ≡ Err g → FlawHolds (aliases_of t) places.Root t (in_aliases g)
@@ -215,4 +216,4 @@ module _ (text : List ℕ) (t r : Data) (tree : IsTreeOf text t) (h : resolution
   -- no fault of inheritance holds of it
   pub refusal_excluded : (flaw : Flaw) → ¬ RefusalHolds t flaw
   refusal_excluded flaw (inl holds) = flaw_excluded flaw holds
-  refusal_excluded flaw (inr (s, looked, deep)) = depth_excluded r 32 flaw sound.shallow (subst (λ x. PassesDepth 32 x flaw) (one_look (aliases_of t) looked (resolution_sound t r apart h).0) deep)
+  refusal_excluded flaw (inr (s, looked, deep)) = depth_excluded r MAX_LEVELS flaw sound.shallow (subst (λ x. PassesDepth MAX_LEVELS x flaw) (one_look (aliases_of t) looked (resolution_sound t r apart h).0) deep)

@@ -6,6 +6,7 @@ use Rattle.std.specs.Prelude.{⊤}
 use Rattle.serde_json.specs.{Data.{Data, null, Members, no_members, member, put, depth}, Find.get_member, Events.members_len}
 use Rattle.serde_json.proofs.Views.{get_member-put_other}
 use Rattle.conf_tree.specs.{Flaw.{Flaw, key, within}, Walk.refusal, declared.fault_kind.FaultKind.FaultKind, Reading.◌>>=◌}
+use Rattle.conf_tree.specs.declared.limits.TheConstants.{MAX_LEVELS}
 use Rattle.conf_inherit.specs.{AliasFlaws.{open_in, is_circle, first_or_circle, alias_flaws, all_alias_flaws}, Flaws.{flaws, asked_flaws, type_flaws, whole_flaws}}
 use Rattle.conf_inherit.specs.{Laying.lay, Named.{all_named, has}, Circle.{Mentions, Walks}}
 use Rattle.conf_inherit.specs.{Limits.{fitting, passed, limit_flaws}, Looks.{Looks, AreResolved}, Names.NoClash, Nesting.deep_flaws}
@@ -221,11 +222,11 @@ ok_then (Err f) k r h = cc
 same_ok : (x r : Data) → (let o : Result Data Flaw = Ok x in o ≡ Ok r) → x ≡ r
 same_ok x r h = cc
 
-ok_shallow : (x r : Data) → if_shallow x ≡ Ok r → (x ≡ r) × (depth r ≤ 32)
+ok_shallow : (x r : Data) → if_shallow x ≡ Ok r → (x ≡ r) × (depth r ≤ MAX_LEVELS)
 ok_shallow x r h =
-    let parts = ok_then (refusal (deep_flaws x 32)) (λ a. Ok x) r h in
+    let parts = ok_then (refusal (deep_flaws x MAX_LEVELS)) (λ a. Ok x) r h in
     let value : x ≡ r = same_ok x r parts.1 in
-    (value, subst (λ y. depth y ≤ 32) value (shallow_depth x 32 (no_flaws (deep_flaws x 32) parts.0)))
+    (value, subst (λ y. depth y ≤ MAX_LEVELS) value (shallow_depth x MAX_LEVELS (no_flaws (deep_flaws x MAX_LEVELS) parts.0)))
 
 -- what becomes of the aliases of a configuration
 abbrev pub rounds_of : Data → Outcomes
@@ -236,7 +237,7 @@ pub record TreeSound (t r : Data) : Type 0 where
   pub outcomes : all_alias_flaws (aliases_of t) (rounds_of t) (aliases_of t) ≡ []
   pub whole : whole_flaws (aliases_of t) (rounds_of t).done t ≡ []
   pub value : lay (rounds_of t).done places.Root t None ≡ r
-  pub shallow : depth r ≤ 32
+  pub shallow : depth r ≤ MAX_LEVELS
 
 pub tree_sound : (t r : Data) → resolution t ≡ Ok r → TreeSound t r
 tree_sound t r h =
@@ -247,8 +248,8 @@ tree_sound t r h =
     let last = ok_shallow (lay st.done places.Root t None) r second.1 in
     record { outcomes = no_flaws (all_alias_flaws al st al) (sound_of _ first.0); whole = no_flaws (whole_flaws al st.done t) second.0; value = last.0; shallow = last.1 }
 
--- what is answered is the resolution, and nests at most 32 deep
-pub resolution_sound : (t r : Data) → NoClash (aliases_of t) → resolution t ≡ Ok r → Resolves t r × (depth r ≤ 32)
+-- what is answered is the resolution, and nests no deeper than may be
+pub resolution_sound : (t r : Data) → NoClash (aliases_of t) → resolution t ≡ Ok r → Resolves t r × (depth r ≤ MAX_LEVELS)
 resolution_sound t r apart h =
     let sound = tree_sound t r h in
     (subst (Resolves t) sound.value (laid_resolves t (aliases_of t) (members_len (aliases_of t)) (rounds_of t) refl apart refl sound.outcomes sound.whole), sound.shallow)

@@ -7,6 +7,8 @@ use Rattle.serde_json.specs.{Data.{Data, null, object, Members, no_members, memb
 use Rattle.serde_json.specs.{Find.{get_member, get, as_object}, View.{view, members_view}}
 use Rattle.serde_json.proofs.Views.{Entry}
 use Rattle.conf_tree.specs.{Flaw.{Flaw, key, within, flaw_of, IsMemory}, Walk.{refusal}, Reading.{◌>>=◌, Gives}, declared.fault.ConfFault.{ConfFault}}
+use Rattle.conf_tree.specs.declared.limits.TheConstants.{MAX_LEVELS}
+use Rattle.conf_inherit.specs.declared.nesting.TheConstants.{ALIAS_LEVELS}
 use Rattle.conf_table.specs.declared.place.Place.TheVariants as places
 use Rattle.conf_table.specs.{declared.place.Place.{Place}, Table.{rows_of, entries_of, content_under, place_in}}
 use Rattle.conf_inherit.specs.{AliasFlaws.{all_alias_flaws}, Flaws.{known_in, own_flaws, alone_flaws, is_outside, inner_flaws, member_flaws, value_flaws, type_flaws, whole_flaws}, Limits.{limit_flaws}, Names.{NoClash}, Spent.{Spends}}
@@ -340,15 +342,16 @@ module _ (n : List ℕ) (f g : Data → Data) (levels : ℕ) (each : (d : Data) 
   value_deep (object ms) = members_deep ms
   value_deep _ = refl
 
-shallow_put : (done : Members) (v : Data) → members_depth done ≤ 28 → deep_flaws (with_aliases done v) 32 ≡ deep_flaws (with_aliases no_members v) 32
+-- aliases of so many levels stand inside four objects
+shallow_put : (done : Members) (v : Data) (levels : ℕ) → members_depth done ≤ levels → deep_flaws (with_aliases done v) (suc (suc (suc (suc levels)))) ≡ deep_flaws (with_aliases no_members v) (suc (suc (suc (suc levels))))
 unfolding with_aliases
-shallow_put done v shallow =
-    value_deep trace_name (in_property type_name (in_property aliases_name (in_object done))) (in_property type_name (in_property aliases_name (in_object no_members))) 31
-    (value_deep type_name (in_property aliases_name (in_object done)) (in_property aliases_name (in_object no_members)) 30
-    (value_deep aliases_name (in_object done) (in_object no_members) 29 theirs)) v
+shallow_put done v levels shallow =
+    value_deep trace_name (in_property type_name (in_property aliases_name (in_object done))) (in_property type_name (in_property aliases_name (in_object no_members))) (suc (suc (suc levels)))
+    (value_deep type_name (in_property aliases_name (in_object done)) (in_property aliases_name (in_object no_members)) (suc (suc levels))
+    (value_deep aliases_name (in_object done) (in_object no_members) (suc levels) theirs)) v
   where
-    theirs : (d : Data) → deep_flaws (in_object done d) 29 ≡ deep_flaws (in_object no_members d) 29
-    theirs (object ms) = depth_shallow (object done) 29 (omega (arith, shallow))
+    theirs : (d : Data) → deep_flaws (in_object done d) (suc levels) ≡ deep_flaws (in_object no_members d) (suc levels)
+    theirs (object ms) = depth_shallow (object done) (suc levels) (omega (arith, shallow))
     theirs _ = refl
 
 -- what is asked is the resolved aliases in what the rest was laid to
@@ -356,11 +359,11 @@ pub asked : (done al : Members) (v laid : Data) → laid ≡ lay done places.Roo
 asked done al v laid is are_laid = ap if_shallow (laid_with done al v are_laid ∙ ap (with_aliases done) (sym is))
 
 -- where shallow aliases are put, what is too deep is so without them
-pub shallow_asked : (done al : Members) (v laid : Data) → laid ≡ lay done places.Root v None → AreLaid done al → members_depth done ≤ 28 → with_aliases no_members v ≡ v
-    → if_shallow (lay done places.Root (with_aliases al v) None) ≡ (refusal (deep_flaws laid 32) >>= (λ a. Ok (with_aliases done laid)))
+pub shallow_asked : (done al : Members) (v laid : Data) → laid ≡ lay done places.Root v None → AreLaid done al → members_depth done ≤ ALIAS_LEVELS → with_aliases no_members v ≡ v
+    → if_shallow (lay done places.Root (with_aliases al v) None) ≡ (refusal (deep_flaws laid MAX_LEVELS) >>= (λ a. Ok (with_aliases done laid)))
 shallow_asked done al v laid is are_laid shallow bare =
     let none = ap (with_aliases no_members) is ∙ laid_bare done v bare ∙ sym is in
-    asked done al v laid is are_laid ∙ ap (λ fs. refusal fs >>= (λ a. Ok (with_aliases done laid))) (shallow_put done laid shallow ∙ ap (λ d. deep_flaws d 32) none)
+    asked done al v laid is are_laid ∙ ap (λ fs. refusal fs >>= (λ a. Ok (with_aliases done laid))) (shallow_put done laid ALIAS_LEVELS shallow ∙ ap (λ d. deep_flaws d MAX_LEVELS) none)
 
 -- what a part refuses, the whole does
 pub refuses : {A B C : Type 0} (seen : A → B) (r : Result A ConfFault) (fault : ConfFault) (read : Result C Flaw) (next : C → Result B Flaw) (answer : Result B Flaw) → IsErrAnd r (λ y. y ≡ fault) → answer ≡ (read >>= next) → IsMemory fault ⊎ (read ≡ Err (flaw_of fault)) → Gives seen r answer

@@ -3,6 +3,7 @@ use Rattle.std.specs.Prelude.{◌≡◌, ◌<◌, ◌++◌, ◌⊎◌, ℕ, List
 use Rattle.serde_json.specs.{Data.{Data, array, object, Items, Members}, Events.members_len, Find.get_item}
 use Rattle.conf_tree.specs.{Flaw.{Flaw, Place as Step, key, index}, Walk.HasMember, declared.fault_kind.FaultKind.FaultKind}
 use Rattle.conf_tree.specs.declared.fault_kind.FaultKind.TheVariants.{WrongKind, NoSuchAlias, InheritCycle, NameClash, Limit}
+use Rattle.conf_tree.specs.declared.limits.TheConstants.{MAX_LEVELS}
 use Rattle.conf_table.specs.declared.place.Place.{Place}
 use Rattle.conf_inherit.specs.{FieldPlaces.{place_under, place_of_items, lists_members}, Circle.Walks, Flaws.{is_wrong, known_in, name_fault, is_crowded}}
 use Rattle.conf_inherit.specs.{Looks.AreResolved, Nesting.PassesDepth, Resolution.{aliases_of, Resolves}, Laying.lay}
@@ -51,4 +52,4 @@ FlawHolds al s v flaw =
 
 -- the kind of a refusal holds at its path, or the whole resolved configuration nests too deep there
 abbrev pub RefusalHolds : Data → Flaw → Type 0
-RefusalHolds t flaw = FlawHolds (aliases_of t) places.Root t flaw ⊎ ((r : Data) × Resolves t r × PassesDepth 32 r flaw)
+RefusalHolds t flaw = FlawHolds (aliases_of t) places.Root t flaw ⊎ ((r : Data) × Resolves t r × PassesDepth MAX_LEVELS r flaw)

@@ -6,6 +6,7 @@
 use Rattle.std.specs.Prelude.{◌&&◌, ◌||◌, ◌++◌, ℕ, suc, List, [], ◌∷◌, map, Option, None, Some, Bool, true, false, not, is_some, nat_lt, if◌then◌else◌}
 use Rattle.serde_json.specs.Data.{Data, null, boolean, number, string, array, object, Items, no_items, item, Members, no_members, member, put}
 use Rattle.serde_json.specs.{Events.items_len, Find.{get_member}}
+use Rattle.ctf_types.specs.declared.limits.TheConstants.{MAX_CONFIG_MEMBERS}
 use Rattle.conf_tree.specs.{Flaw.{Flaw, key, index, here, within}, declared.fault_kind.FaultKind.FaultKind}
 use Rattle.conf_tree.specs.declared.fault_kind.FaultKind.TheVariants.{WrongKind, NoSuchAlias, NameClash, Limit}
 use Rattle.conf_table.specs.declared.place.Place.{Place}
@@ -43,13 +44,9 @@ abbrev pub name_fault : (List ℕ → Option FaultKind) → Place → Data → O
 name_fault ask s (string n) = if names_type s then ask n else None
 name_fault ask s _ = None
 
--- the most extra members of a packet context
-abbrev pub max_extra_members : ℕ
-max_extra_members = 256
-
 -- a list of more extra members than a packet context may have
 abbrev pub is_crowded : Place → Data → Bool
-is_crowded s (array es) = lists_extra_members s && nat_lt max_extra_members (items_len es)
+is_crowded s (array es) = lists_extra_members s && nat_lt MAX_CONFIG_MEMBERS (items_len es)
 is_crowded s _ = false
 
 abbrev pub fault_or : Option FaultKind → List Flaw → List Flaw

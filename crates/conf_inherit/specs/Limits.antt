@@ -1,32 +1,25 @@
 -- The limits of a field type, once it is resolved: its JSON values and its levels. Only a type that resolves has a
 -- size: all aliases that it names are resolved. Where a type passes both limits, that of its values is named.
-use Rattle.std.specs.Prelude.{◌≡◌, ◌<◌, ◌≤◌, ◌⊎◌, ℕ, List, [], ◌∷◌, None, Result, Ok, Err, nat_lt, true, if◌then◌else◌}
+use Rattle.std.specs.Prelude.{◌≡◌, ◌<◌, ◌≤◌, ◌⊎◌, List, [], ◌∷◌, None, Result, Ok, Err, nat_lt, true, if◌then◌else◌}
 use Rattle.serde_json.specs.Data.{Data, array, object, Items, no_items, item, Members, no_members, member, depth}
 use Rattle.conf_tree.specs.{Flaw.{Flaw, here}, declared.fault_kind.FaultKind.FaultKind, declared.fault_kind.FaultKind.TheVariants.{TooDeep, Limit}}
+use Rattle.conf_tree.specs.declared.limits.TheConstants.{MAX_LEVELS, MAX_VALUES}
 use Rattle.conf_table.specs.declared.place.Place.{Place}
 use Rattle.conf_inherit.specs.{FieldPlaces.{place_under, place_of_items, is_base_name}, Laying.lay, Named.{all_named, has}, Size.size}
 
--- the most JSON values of a resolved type
-abbrev pub max_values : ℕ
-max_values = 4096
-
--- the most levels of its objects and lists
-abbrev pub max_levels : ℕ
-max_levels = 32
-
 -- a resolved type is within both limits
 abbrev pub Fits : Data → Type 0
-Fits r = (size r ≤ max_values) × (depth r ≤ max_levels)
+Fits r = (size r ≤ MAX_VALUES) × (depth r ≤ MAX_LEVELS)
 
 -- a resolved type is past the limit of this kind
 abbrev pub Exceeds : FaultKind → Data → Type 0
-Exceeds Limit r = max_values < size r
-Exceeds TooDeep r = max_levels < depth r
+Exceeds Limit r = MAX_VALUES < size r
+Exceeds TooDeep r = MAX_LEVELS < depth r
 Exceeds _ r = ⊥
 
 -- a resolved type within the limits, or the limit that it passes
 abbrev pub fitting : Data → Result Data FaultKind
-fitting r = if nat_lt max_values (size r) then Err Limit else if nat_lt max_levels (depth r) then Err TooDeep else Ok r
+fitting r = if nat_lt MAX_VALUES (size r) then Err Limit else if nat_lt MAX_LEVELS (depth r) then Err TooDeep else Ok r
 
 abbrev pub passed : Result Data FaultKind → List Flaw
 passed (Ok r) = []

@@ -3,6 +3,7 @@
 use Rattle.std.specs.Prelude.{ℕ, List, [], ◌∷◌, Option, None, Some, option_and_then, codes, Result, Ok, Err, ⊤}
 use Rattle.serde_json.specs.{Data.{Data, object, Members, no_members}, Find.get, Events.members_len}
 use Rattle.conf_tree.specs.{Flaw.{Flaw, key, within}, Reading.◌>>=◌, Walk.refusal}
+use Rattle.conf_tree.specs.declared.limits.TheConstants.{MAX_LEVELS}
 use Rattle.conf_inherit.specs.{AliasFlaws.all_alias_flaws, Laying.lay, Nesting.deep_flaws, Flaws.whole_flaws, Rounds.{Outcomes, rounds, no_outcomes}}
 use Rattle.conf_inherit.specs.Looks.{Looks}
 use Rattle.conf_table.specs.declared.place.Place.TheVariants as places
@@ -38,9 +39,9 @@ abbrev pub from_aliases : Result ⊤ Flaw → Result ⊤ Flaw
 from_aliases (Ok x) = Ok x
 from_aliases (Err flaw) = Err (in_aliases flaw)
 
--- the whole resolved tree, unless an object or a list in it stands inside 32 others
+-- the whole resolved tree, unless an object or a list in it stands inside as many others as may nest
 abbrev pub if_shallow : Data → Result Data Flaw
-if_shallow r = refusal (deep_flaws r 32) >>= (λ a. Ok r)
+if_shallow r = refusal (deep_flaws r MAX_LEVELS) >>= (λ a. Ok r)
 
 -- the aliases are judged before the whole, and the levels of what it is laid to behind it
 abbrev pub resolution_after : Members → Outcomes → Data → Result Data Flaw

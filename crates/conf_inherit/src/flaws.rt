@@ -13,12 +13,10 @@ use crate::limits::check_limits;
 use crate::outcomes::Known;
 use conf_table::Place;
 use conf_tree::{ConfFault, FaultKind};
+use ctf_types::MAX_CONFIG_MEMBERS;
 use serde_json::{Map, Value};
 use std::alloc::AllocError;
 use std::collections::BTreeMap;
-
-/// The most extra members of a packet context.
-const MAX_EXTRA_MEMBERS: usize = 256;
 
 /// Whether a value is of another kind than its place asks for.
 fn is_wrong(value: &Value, place: Place) -> bool
@@ -57,7 +55,7 @@ fn is_crowded(value: &Value, place: Place) -> bool
     let Value::Array(items) = value else {
         return false;
     };
-    lists_extra_members(place) && items.len() > MAX_EXTRA_MEMBERS
+    lists_extra_members(place) && items.len() > MAX_CONFIG_MEMBERS
 }
 
 /// Refuses the first flaw of a value itself, where its name may be taken.

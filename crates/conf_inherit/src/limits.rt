@@ -11,15 +11,9 @@ use crate::nesting::is_deeper;
 use crate::property::property;
 use crate::size::{Stop, count};
 use conf_table::Place;
-use conf_tree::{ConfFault, FaultKind};
+use conf_tree::{ConfFault, FaultKind, MAX_LEVELS, MAX_VALUES};
 use serde_json::{Map, Value};
 use std::alloc::Global;
-
-/// The most JSON values of one resolved field type.
-const MAX_VALUES: usize = 4096;
-
-/// The most levels of its objects and lists.
-const MAX_LEVELS: usize = 32;
 
 /// Refuses a field type that passes a limit, if all aliases that it names are resolved. One that is the name of an
 /// alias is not copied.

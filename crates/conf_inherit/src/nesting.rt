@@ -4,13 +4,13 @@ ghost use Rattle.serde_json.specs.{Data.{depth, items_depth, members_depth}, Vie
 ghost use Rattle.conf_tree.specs.{Reading.Gives, Walk.refusal};
 ghost use Rattle.conf_inherit.specs.Nesting.{deep_flaws, deep_item_flaws, deep_member_flaws};
 
-use conf_tree::{ConfFault, FaultKind};
+use conf_tree::{ConfFault, FaultKind, MAX_LEVELS};
 use serde_json::{Map, Value};
 use std::alloc::Global;
 
 /// The most levels of a resolved alias that is within the levels of every configuration: it stands inside the objects
 /// of the aliases, the trace type, the trace and the configuration.
-pub(crate) const ALIAS_LEVELS: usize = 28;
+pub(crate) const ALIAS_LEVELS: usize = MAX_LEVELS - 4;
 
 /// Whether objects and lists nest more levels deep.
 #[cycle(deeper)]

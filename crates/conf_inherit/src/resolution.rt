@@ -14,7 +14,7 @@ use crate::outcomes::{AliasOutcomes, Known};
 use crate::rounds::settle_aliases;
 use crate::size::Stop;
 use conf_table::Place;
-use conf_tree::{ConfFault, Tree};
+use conf_tree::{ConfFault, MAX_LEVELS, Tree};
 use serde_json::{Map, Value};
 use std::alloc::Global;
 use std::mem::replace;
@@ -93,12 +93,12 @@ fn lay_all(
         Err(Stop::Limit) => unreachable!(),
     };
     if shallow {
-        check_nesting(alloc, &laid, 32)?;
+        check_nesting(alloc, &laid, MAX_LEVELS)?;
         drop(replace_aliases(alloc, &mut laid, resolved));
         return Ok(laid);
     }
     drop(replace_aliases(alloc, &mut laid, resolved));
-    check_nesting(alloc, &laid, 32)?;
+    check_nesting(alloc, &laid, MAX_LEVELS)?;
     Ok(laid)
 }
 
@@ -136,7 +136,7 @@ fn resolve_after(
 /// The configuration with every inheritance resolved: each property has the value that is looked up along what its
 /// object inherits from (barectf 3.1, "Field type inheritance"). The tree is spent on a refusal, which names the first
 /// fault: those of the aliases in byte order of their names, then those of the other places in walk order, and last
-/// the first place in the resolved tree that stands inside 32 objects and lists. It takes as long as the text and what
+/// the first place in the resolved tree that stands inside `MAX_LEVELS` objects and lists. It takes as long as the text and what
 /// its field types hold once they are resolved.
 pub fn resolve(alloc: Global, tree: Tree) -> Result<Tree, ConfFault>
     ensures resolved { IfOk result (λ made. Resolves (view tree.value) (view made.value)) }

@@ -5,6 +5,8 @@ use Rattle.std.specs.Option.{option_map_or}
 use Rattle.std.specs.Str.{bytes_eq}
 use Rattle.serde_json.specs.Data.{Data, null, boolean, number, string, array, object, Items, no_items, item, Members, no_members, member}
 use Rattle.serde_json.specs.Events.{items_len, members_len}
+use Rattle.ctf_types.specs.declared.limits.TheConstants.{MAX_ARRAYS, MAX_CONFIG_RANGES, MAX_ELEMENTS}
+use Rattle.conf_tree.specs.declared.limits.TheConstants.{MAX_LABEL_BYTES}
 use Rattle.conf_tree.specs.declared.fault_kind.FaultKind.TheVariants.{Limit}
 use Rattle.conf_tree.specs.Flaw.{Flaw, key, index, here, within}
 use Rattle.conf_table.specs.declared.place.Place.{Place}
@@ -41,10 +43,10 @@ divides high (Some n) = nat_eq n 0 || (high % n == 0)
 unfoldable pub power_fits : ℕ → Data → Bool
 power_fits high d = divides high (as_natural d)
 
--- ---- static arrays: 8 in one another, and 2^20 elements in all, an empty one counted as one
+-- ---- static arrays: so many in one another, and so many elements in all, an empty one counted as one
 
 abbrev pub times : Option ℕ → Option ℕ → Option ℕ
-times (Some n) (Some m) = if nat_le (n * m) 1048576 then Some (n * m) else None
+times (Some n) (Some m) = if nat_le (n * m) MAX_ELEMENTS then Some (n * m) else None
 times _ _ = None
 
 abbrev pub at_least_one : Option ℕ → Option ℕ
@@ -74,7 +76,7 @@ is_outermost places.IdentifierFeature = true
 is_outermost _ = false
 
 unfoldable pub arrays_fit : Place → Data → Bool
-arrays_fit place d = if is_outermost place then is_some (elements 8 d) else true
+arrays_fit place d = if is_outermost place then is_some (elements MAX_ARRAYS d) else true
 
 -- ---- entries
 
@@ -96,7 +98,7 @@ ranges_of (object ms) = ranges_in ms
 ranges_of _ = 0
 
 unfoldable pub ranges_fit : Place → Data → Bool
-ranges_fit places.Mappings d = nat_le (ranges_of d) 1024
+ranges_fit places.Mappings d = nat_le (ranges_of d) MAX_CONFIG_RANGES
 ranges_fit _ d = true
 
 unfoldable pub place_fits : Place → Data → Bool
@@ -117,7 +119,7 @@ is_label _ = false
 
 -- a label is a text that people read
 unfoldable pub key_fits : Place → List ℕ → Bool
-key_fits place k = if option_map_or (λ e. is_label e.keys) (entries_of place) false then nat_le (length k) 4096 else true
+key_fits place k = if option_map_or (λ e. is_label e.keys) (entries_of place) false then nat_le (length k) MAX_LABEL_BYTES else true
 
 abbrev mutual
   -- the limits that are passed by what a value holds

@@ -32,7 +32,7 @@ use std::alloc::Global;
 /// shape a magic number or an identifier has, that elements have bits, and that one of two byte orders is there.
 ///
 /// The tree stays as it is, and the fault has the way from the whole configuration to the value, or to the property that is
-/// missing or unknown. Where memory is wanting for this, that is the fault. A resolved tree nests no deeper than 32.
+/// missing or unknown. Where memory is wanting for this, that is the fault. A resolved tree nests no deeper than `MAX_LEVELS`.
 #[tactic(auto, using(crate::proofs::FirstFlaw::told_first, crate::proofs::FirstFlaw::told_later))]
 pub fn check_objects(alloc: Global, value: &Value) -> Result<(), ConfFault>
     ensures { Gives (λ _. tt) result (refusal (configuration_flaws (view value.now))) }

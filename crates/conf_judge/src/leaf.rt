@@ -16,6 +16,7 @@ use crate::form::check_form;
 use conf_table::{Content, class_place, words_in};
 use conf_tree::{At, ConfFault, FaultKind, flag, member, text, whole};
 use conf_values::{is_printable, parsed};
+use ctf_types::is_among;
 use serde_json::{Map, Value};
 use std::alloc::Global;
 
@@ -114,18 +115,7 @@ fn check_word(alloc: Global, words: &'static [&'static str], value: &Value) -> R
     ensures { Gives (λ _. tt) result (text_that (λ s. list_any (bytes_eq s) (map (λ w. w.now) words.now)) (view value.now)) }
 {
     let text = text(alloc, At::Here, value)?;
-    check_that(alloc, is_among(words, text))
-}
-
-fn is_among(words: &'static [&'static str], word: &str) -> bool
-    ensures { result ≡ list_any (bytes_eq word.now) (map (λ w. w.now) words.now) }
-{
-    for other in words {
-        if word == *other {
-            return true;
-        }
-    }
-    false
+    check_that(alloc, is_among(text, words))
 }
 
 fn check_class(alloc: Global, value: &Value) -> Result<(), ConfFault>

@@ -1,6 +1,7 @@
 //! The first limit of size that a configuration passes, in the order of a walk.
 ghost use Rattle.std.specs.Prelude.{◌≡◌, ◌≤◌, ◌<◌, ◌+◌, ◌++◌, IfErr, nat_le, unwrap_or};
 ghost use Rattle.serde_json.specs.View.{view, items_view, members_view};
+ghost use Rattle.ctf_types.specs.declared.limits.TheConstants.{MAX_CONFIG_RANGES};
 ghost use Rattle.conf_tree.specs.Reading.{Gives};
 ghost use Rattle.conf_tree.specs.Walk.{refusal};
 ghost use Rattle.conf_table.specs.Table.{content_under};
@@ -10,12 +11,10 @@ ghost use Rattle.conf_judge.specs.Limits.{within_limit, elements as elements_of,
 
 use crate::numbers::natural_in;
 use crate::places::{item_content, place_of_properties};
-use conf_table::{
-    Content, Keys, MAX_RANGES, MAX_TEXT_BYTES, Place, class_of, content_at, entries_at,
-};
-use conf_tree::{ConfFault, FaultKind};
+use conf_table::{Content, Keys, Place, class_of, content_at, entries_at};
+use conf_tree::{ConfFault, FaultKind, MAX_LABEL_BYTES};
 use conf_values::as_natural;
-use ctf_types::{MAX_ARRAYS, MAX_ELEMENTS};
+use ctf_types::{MAX_ARRAYS, MAX_CONFIG_RANGES, MAX_ELEMENTS};
 use serde_json::{Map, Value};
 use std::alloc::Global;
 
@@ -27,7 +26,7 @@ use std::alloc::Global;
 /// index.
 ///
 /// The tree stays as it is, and the fault has the way from the whole configuration to the value, or to the label. Where memory is
-/// wanting for this, that is the fault. A resolved tree nests no deeper than 32.
+/// wanting for this, that is the fault. A resolved tree nests no deeper than `MAX_LEVELS`.
 pub fn check_limits(alloc: Global, value: &Value) -> Result<(), ConfFault>
     ensures { Gives (λ _. tt) result (refusal (configuration_limits (view value.now))) }
 {
@@ -169,12 +168,12 @@ fn count_of(value: &Value) -> usize
 
 /// Whether all labels of an enumeration have no more ranges than the most.
 fn few_ranges(value: &Value) -> bool
-    ensures { result ≡ nat_le (ranges_of_data (view value.now)) 1024 }
+    ensures { result ≡ nat_le (ranges_of_data (view value.now)) MAX_CONFIG_RANGES }
 {
     let Value::Object(members) = value else {
         return true;
     };
-    let mut left = MAX_RANGES;
+    let mut left = MAX_CONFIG_RANGES;
     for (_label, value) in members.iter() {
         let count = count_of(value);
         if count > left {
@@ -190,6 +189,6 @@ fn few_ranges(value: &Value) -> bool
 fn key_fits(place: Place, name: &str) -> bool
     ensures { result ≡ key_fits_of place name.now }
 {
-    name.len() as u64 <= MAX_TEXT_BYTES
+    name.len() as u64 <= MAX_LABEL_BYTES
         || entries_at(place).is_none_or(|entries| !matches!(entries.keys, Keys::Label))
 }

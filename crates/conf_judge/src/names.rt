@@ -11,6 +11,7 @@ use crate::leaf::check_that;
 use conf_table::{Keys, Place, class_of, entries_at};
 use conf_tree::{ConfFault, FaultKind, member};
 use conf_values::{check_name, check_plain_name, is_printable};
+use ctf_types::OWN_NAMES;
 use serde_json::{Map, Value};
 use std::alloc::{AllocError, Global};
 
@@ -81,16 +82,6 @@ fn is_dynamic(value: &Value) -> bool
         .and_then(|told| class_of(told));
     class == Some(Place::DynamicArray)
 }
-
-/// The members that a packet context has itself (CTF 1.8.3, section 5.2).
-static OWN_NAMES: [&str; 6] = [
-    "packet_size",
-    "content_size",
-    "timestamp_begin",
-    "timestamp_end",
-    "events_discarded",
-    "packet_seq_num",
-];
 
 /// The names that no member can have: in a packet context, those of its own members.
 #[tactic(auto, unfolding(crate::specs::Names::names_beside))]

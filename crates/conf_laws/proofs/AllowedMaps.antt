@@ -5,7 +5,7 @@ use Rattle.std.proofs.Common.{◌≡◌, ℕ, ◌||◌, ◌&&◌, true, List, le
 use Rattle.conf_laws.proofs.Numbers.{range_read, some_size, natural_is_in, alignment_or, needed_natural}
 use Rattle.conf_laws.proofs.Readings.{Says, proved_says, under_no_test, all_joined, same_natural, optional_found, by_found, by_test}
 use Rattle.conf_laws.proofs.Sound.{object_read, HasRow, RowsSound, ContentSound, object_sound, content_sound, first_item, first_entry, held_at, needed_sound, optional_sound, rows_sound, IsWithin, AreWithin, object_within, entry_within, optional_within, all_within, fitting_parts, flaws_in, names_of, sorted_names, names_counted}
-use Rattle.conf_laws.proofs.Words.{IsRange, is_alignment, number_or_default, presence_under, rows_of, Needed, entries_of, Place, At, WholeOrText, Whole, Text, Content, member_flaws, item_flaws, inside, behind, itself_of, form_of, Known, with_taken, key_fits, ranges_fit, key_of, key_by, names_beside, with_names, range_of, is_inside, inside_of, numbers_in, item_content, leaf_of, whole_or_text, fits, AllAbove, IsInOrder, both_read, is_passed, name_of, is_reserved, plain_name_of, is_printable, Members, Data, array, Items, no_items, item, no_members, member, object, items_len, optional, as_natural, string, members_len, nat_tests, and_parts, or_parts, leb-true, nat_list_cmp_total, tied_itself, All-from_recursion, All-weaker, slice_cmp, list_any, AllByRecursion, bytes_eq, length-map, low, high, ranges_in, labels_in, enumeration, integer, size_of, object_at, properties, LabelsInOrder, lowest, highest, IsRangeOf, IsEnumeration, unused_keywords, used_keywords, IsConfigName, IsPlainName, IsConfigText, IntType, Mapping, clock_type, clocks_in, clock_types, entry_value, entries_in, environment, natural, word, InByteOrder, IsEnvironmentValue, IsClockType, ClockType, EnvironmentEntry, integer_made as made, integer_align as align_of, default_align, counted_ranges, place_of_properties, is_position, own_place}
+use Rattle.conf_laws.proofs.Words.{LARGEST_ALIGN, MAX_CLOCK_TYPES, MAX_CONFIG_RANGES, MAX_ENVIRONMENT, MAX_TEXT_BYTES, IsRange, is_alignment, number_or_default, presence_under, rows_of, Needed, entries_of, Place, At, WholeOrText, Whole, Text, Content, member_flaws, item_flaws, inside, behind, itself_of, form_of, Known, with_taken, key_fits, ranges_fit, key_of, key_by, names_beside, with_names, range_of, is_inside, inside_of, numbers_in, item_content, leaf_of, whole_or_text, fits, AllAbove, IsInOrder, both_read, is_passed, name_of, is_reserved, plain_name_of, is_printable, Members, Data, array, Items, no_items, item, no_members, member, object, items_len, optional, as_natural, string, members_len, nat_tests, and_parts, or_parts, leb-true, nat_list_cmp_total, tied_itself, All-from_recursion, All-weaker, slice_cmp, list_any, AllByRecursion, bytes_eq, length-map, low, high, ranges_in, labels_in, enumeration, integer, size_of, object_at, properties, LabelsInOrder, lowest, highest, IsRangeOf, IsEnumeration, unused_keywords, used_keywords, IsConfigName, IsPlainName, IsConfigText, IntType, Mapping, clock_type, clocks_in, clock_types, entry_value, entries_in, environment, natural, word, InByteOrder, IsEnvironmentValue, IsClockType, ClockType, EnvironmentEntry, integer_made as made, integer_align as align_of, default_align, counted_ranges, place_of_properties, is_position, own_place}
 use Rattle.conf_laws.proofs.Words.places
 
 pub config_name : (name : List ℕ) → name_of name ≡ Ok tt → IsConfigName name
@@ -20,8 +20,8 @@ plain_name name e =
     record { named = config_name name named_well.1; no_unused_keyword = free.0; no_used_keyword = free.1 }
 
 -- a text that people read
-pub config_text : (s : List ℕ) → is_printable s ≡ true → nat_le (length s) 4096 ≡ true → IsConfigText s
-config_text s e limit = record { short = leb-true (length s) 4096 limit; printable = e }
+pub config_text : (s : List ℕ) → is_printable s ≡ true → nat_le (length s) MAX_TEXT_BYTES ≡ true → IsConfigText s
+config_text s e limit = record { short = leb-true (length s) MAX_TEXT_BYTES limit; printable = e }
 
 pub record IsMade (size align : ℕ) (signed : Bool) (t : IntType) : Type 0 where
   pub size_is : t.size ≡ size
@@ -35,10 +35,10 @@ integer_says k place signed ms size h =
     let n = needed_natural k place (codes "size") 1 64 ms size h (omega arith) in
     let is = sym (ap (λ o. unwrap_or o 0) n.1) in
     let default : is_alignment (default_align (size_of ms)) ≡ true = by_test (λ (b : Bool). is_alignment (cond b 8 1) ≡ true) (size_of ms % 8 == 0) (λ is. refl) (λ is. refl) in
-    let align = and_parts (nat_lt 0 (align_of ms)) (4096 % align_of ms == 0) (alignment_or (codes "alignment") (default_align (size_of ms)) ms default) in
+    let align = and_parts (nat_lt 0 (align_of ms)) (LARGEST_ALIGN % align_of ms == 0) (alignment_or (codes "alignment") (default_align (size_of ms)) ms default) in
     let P : IntType → Type 0 = IsMade (size_of ms) (align_of ms) signed in
     proved_says P (nat_lt 0 (size_of ms)) _ (subst (λ x. nat_lt 0 x ≡ true) is (lt-ltb 0 n.0 (let a = leb-true 1 n.0 n.2 in omega arith)))
-    (λ _. proved_says P (nat_le (size_of ms) 64) _ (subst (λ x. nat_le x 64 ≡ true) is n.3) (λ _. proved_says P (nat_lt 0 (align_of ms)) _ align.0 (λ _. proved_says P (4096 % align_of ms == 0) _ align.1 (λ _. (_, refl, record { size_is = refl; align_is = refl; sign_is = refl; no_clock = refl })))))
+    (λ _. proved_says P (nat_le (size_of ms) 64) _ (subst (λ x. nat_le x 64 ≡ true) is n.3) (λ _. proved_says P (nat_lt 0 (align_of ms)) _ align.0 (λ _. proved_says P (LARGEST_ALIGN % align_of ms == 0) _ align.1 (λ _. (_, refl, record { size_is = refl; align_is = refl; sign_is = refl; no_clock = refl })))))
 
 -- ---- one range
 
@@ -131,14 +131,14 @@ record AreMappings (k : Known) (ms : List Mapping) : Type 0 where
   each : All (IsGoodMapping k) ms
   in_order : LabelsInOrder ms
   some : 0 < length ms
-  few : length ms ≤ 1024
+  few : length ms ≤ MAX_CONFIG_RANGES
 
 mappings_good : (k : Known) (labels : Members) → ContentSound k (At places.Mappings) (object labels) → IsWithin (At places.Mappings) (object labels) → AreMappings k (labels_in labels)
 unfolding ranges_fit inside place_of_properties is_position own_place
 mappings_good k labels h within =
     let flaws = (rows_sound k places.Mappings places.Mappings labels refl (object_sound k places.Mappings labels h.inner)).flaws in
     let all = object_within places.Mappings places.Mappings labels refl within in
-    let few = leb-true (counted_ranges labels) 1024 (fitting_parts places.Mappings (object labels) within.fitting).2 in
+    let few = leb-true (counted_ranges labels) MAX_CONFIG_RANGES (fitting_parts places.Mappings (object labels) within.fitting).2 in
     record { each = All-from_recursion (IsGoodMapping k) (labels_in labels) (labels_good k labels flaws all); in_order = labels_in_order labels all.in_order; some = some_range k labels h.itself flaws; few = omega (arith, few, labels_few labels) }
 
 -- ---- the numbers of the integer
@@ -199,7 +199,7 @@ map_allowed named good most ms xs order few h =
     record { each = All-from_recursion good xs h.items; in_order = subst InByteOrder (sym h.names_are) (sorted_names ms order); few = omega (arith, short, counted) }
 
 abbrev entry_content : Content
-entry_content = WholeOrText (negsuc 9223372036854775807) (pos 9223372036854775807) 4096
+entry_content = WholeOrText (negsuc 9223372036854775807) (pos 9223372036854775807) MAX_TEXT_BYTES
 
 value_allowed : (k : Known) (d : Data) → ContentSound k entry_content d → IsWithin entry_content d → IsEnvironmentValue (entry_value d)
 unfolding itself_of leaf_of whole_or_text fits
@@ -221,13 +221,13 @@ entries_under k (member name d ms) f h =
     one_under entry_name IsEntry name (names_of ms) (record { name = name; value = entry_value d }) (entries_in ms) refl (plain_name name sound.0.named, value_allowed k d sound.0.value within.0) (entries_under k ms sound.1 within.2)
 
 abbrev pub IsEnvironment : List EnvironmentEntry → Type 0
-IsEnvironment es = AreAllowed entry_name IsEntry 256 es
+IsEnvironment es = AreAllowed entry_name IsEntry MAX_ENVIRONMENT es
 
 pub environment_allowed : (k : Known) (ms : Members) → member_flaws k places.Trace ms ≡ [] → AreWithin places.Trace ms → IsEnvironment (environment ms)
 unfolding environment entries_of rows_of inside itself_of form_of place_of_properties is_position own_place
 environment_allowed k ms f h =
     let all = all_within places.Trace (codes "environment") (refl, refl) (λ j d own. (refl, refl)) ms h in
-    map_allowed entry_name IsEntry 256 _ _ all.0.in_order all.1 (entries_under k _ (flaws_in k places.Trace (codes "environment") (refl, refl) (λ j d own. (refl, refl), λ j own. refl) ms f) all.0)
+    map_allowed entry_name IsEntry MAX_ENVIRONMENT _ _ all.0.in_order all.1 (entries_under k _ (flaws_in k places.Trace (codes "environment") (refl, refl) (λ j d own. (refl, refl), λ j own. refl) ms f) all.0)
 
 -- ---- one clock type
 
@@ -235,7 +235,7 @@ description_allowed : (k : Known) (ms : Members) (s : List ℕ) → member_flaws
 unfolding itself_of leaf_of fits word rows_of
 description_allowed k ms s f h e =
     let there : optional (codes "description") ms ≡ Some (string s) = grind (arith, e) in
-    config_text s (is_passed _ tt tt _ (optional_sound k places.ClockType (codes "description") (Text 4096) ms (string s) (refl, refl) f there).value.itself).0 (optional_within places.ClockType (codes "description") (Text 4096) (refl, refl) ms (string s) h there).fitting
+    config_text s (is_passed _ tt tt _ (optional_sound k places.ClockType (codes "description") (Text MAX_TEXT_BYTES) ms (string s) (refl, refl) f there).value.itself).0 (optional_within places.ClockType (codes "description") (Text MAX_TEXT_BYTES) (refl, refl) ms (string s) h there).fitting
 
 frequency_positive : (k : Known) (ms : Members) → member_flaws k places.ClockType ms ≡ [] → 0 < number_or_default places.ClockType (codes "frequency") ms
 unfolding itself_of leaf_of natural presence_under rows_of
@@ -261,10 +261,10 @@ clocks_under k (member name d ms) f h =
     (one_under clock_name IsClockType name (names_of ms) (clock_type name inner) (clocks_in ms) refl one (clocks_under k ms sound.1 within.2))
 
 abbrev pub AreClocks : List ClockType → Type 0
-AreClocks cs = AreAllowed clock_name IsClockType 64 cs
+AreClocks cs = AreAllowed clock_name IsClockType MAX_CLOCK_TYPES cs
 
 pub clocks_allowed : (k : Known) (ms : Members) → member_flaws k places.TraceType ms ≡ [] → AreWithin places.TraceType ms → AreClocks (clock_types ms)
 unfolding clock_types entries_of rows_of inside itself_of form_of place_of_properties is_position own_place
 clocks_allowed k ms f h =
     let all = all_within places.TraceType (codes "clock-types") (refl, refl) (λ j d own. (refl, refl)) ms h in
-    map_allowed clock_name IsClockType 64 _ _ all.0.in_order all.1 (clocks_under k _ (flaws_in k places.TraceType (codes "clock-types") (refl, refl) (λ j d own. (refl, refl), λ j own. refl) ms f) all.0)
+    map_allowed clock_name IsClockType MAX_CLOCK_TYPES _ _ all.0.in_order all.1 (clocks_under k _ (flaws_in k places.TraceType (codes "clock-types") (refl, refl) (λ j d own. (refl, refl), λ j own. refl) ms f) all.0)

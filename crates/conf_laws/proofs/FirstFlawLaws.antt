@@ -2,13 +2,15 @@
 -- knows of.
 use Rattle.std.proofs.Common.{◌≡◌, ◌≢◌, ◌⊎◌, ◌+◌, ◌≤◌, ◌&&◌, ◌||◌, ℕ, zero, suc, Bool, true, false, not, cond, List, [], ◌∷◌, ◌++◌, map, get_or, Contains, Option, Some, None, IsSome, unwrap_or, Err, inl, inr, refl, sym, ap, subst, ◌∙◌, arith, codes}
 use Rattle.std.specs.Ordering.{is_lt, nat_cmp}
-use Rattle.conf_laws.specs.WalkOrder.{Turn, by_itself, its_name, its_class, what_it_lacks, what_it_holds, its_shape, NameBefore, WayBefore, way_to, IsFirstOf}
+use Rattle.conf_laws.specs.FlawOrder.{NameBefore}
+use Rattle.conf_laws.specs.WalkOrder.{Turn, by_itself, its_name, its_class, what_it_lacks, what_it_holds, its_shape, WayBefore, way_to, IsFirstOf}
 use Rattle.conf_laws.proofs.Agreement.{Agrees, nothing_agrees, inside_agrees, behind_agrees, Takes, takes_beside, takes_further, item_agrees, IsFrom, from_start, from_next, item_here}
+use Rattle.conf_laws.proofs.FirstAtTurn.{value_first, name_first, class_first, shape_first}
 use Rattle.conf_laws.proofs.Readings.{some_none, by_found, by_test}
 use Rattle.conf_laws.proofs.Sound.{no_rows, map_leads}
 use Rattle.conf_laws.proofs.TableFlawLaws.{property, left, class_judged, shape_judged, member_there, parts_of}
 use Rattle.conf_laws.proofs.ValueFlawLaws.{IsJudged, value_judged, name_judged}
-use Rattle.conf_laws.proofs.WalkOrderLaws.{one_before, From, UpTo, from_turn, up_to_turn, from_less, rank_before, one_turn, above, Leads, leads_judged, leads_joined, Within, leads_within, leads_then, leads_where}
+use Rattle.conf_laws.proofs.WalkOrderLaws.{IsSameOrBefore, alone_first, one_before, From, UpTo, from_turn, up_to_turn, from_less, rank_before, one_turn, above, Leads, leads_judged, leads_joined, Within, leads_within, leads_then, leads_where}
 use Rattle.conf_laws.proofs.Words.{Around, Parts, HasBehind, member_of, item_of, IsLeftOut, IsNoClassAt, HasNotItsRows, IsNoShapeAt, IsFlawOf, IsNoValueOf, IsNoNameAt, IsNoKey, Keys, is_by_index, presence_under, Told, rows_of, Place, At, Content, Presence, is_needed, resolved_content, left_out, is_left_out, class_rule, row_there, rows_there, orders_there, all_there, told_by, property_flaws, inner_flaws, item_flaws, member_flaws, content_flaws, configuration_flaws, itself_of, Known, nothing, inside, behind, with_taken, key_of, names_beside, with_names, place_of_properties, item_content, shape_of, Flaw, key, here, within, index, optional, HasMember, refusal, Missing, Unknown, Ascends, IsInOrder, ItemsAscend, MembersAscend, slice_cmp, Data, object, Members, array, Items, no_items, item, no_members, member, get_member, get_item, nat_tests, and_parts, list_all_at, false≢true}
 use Rattle.conf_laws.proofs.Words.places
 use Rattle.conf_laws.proofs.Words.contents
@@ -124,7 +126,7 @@ rows_lead ms [] e = λ q f wrong. wrong
 rows_lead ms (row ∷ rows) e =
     let parts = and_parts (not (is_needed row.presence) || above_needed row.name rows) (needed_ascend rows) e in
     let judged : IsJudged (row_there ms row) (IsLacked ms row) = grind (arith, nat_tests) in
-    leads_then (λ q f. (q ≡ what_it_lacks row.name ∷ []) × IsLacked ms row f) (LacksAt ms rows) (row_there ms row) (rows_there ms rows) (leads_judged (what_it_lacks row.name) (IsLacked ms row) (row_there ms row) judged) (rows_lead ms rows parts.1)
+    leads_then (λ q f. (q ≡ what_it_lacks row.name ∷ []) × IsLacked ms row f) (LacksAt ms rows) (row_there ms row) (rows_there ms rows) (leads_judged (what_it_lacks row.name) (IsLacked ms row) (row_there ms row) judged (alone_first (IsLacked ms row) (row_there ms row) judged (λ f g one other. one.2 ∙ sym other.2))) (rows_lead ms rows parts.1)
     (λ p q f g a b. let (r, among, is, lacked) = lacks_turn ms rows q g b in one_before (what_it_lacks row.name) (what_it_lacks r.name) [] [] p q (below_needed row.name rows r (above_there row.name rows row.presence a.1.0 parts.0) among lacked.0) a.0 is)
 
 orders_judged : (place : Place) (ms : Members) → IsJudged (orders_there place ms) (HasNoOrder place ms)
@@ -143,14 +145,14 @@ missing_leads : (place : Place) (ms : Members) → Leads (told_by (all_there pla
 unfolding all_there
 missing_leads place ms =
     leads_then (LacksAt ms (rows_of place)) (λ q f. (q ≡ what_it_lacks (codes "trace-byte-order") ∷ []) × HasNoOrder place ms f) (rows_there ms (rows_of place)) (orders_there place ms) (rows_lead ms (rows_of place) (table_ascends place))
-    (leads_judged (what_it_lacks (codes "trace-byte-order")) (HasNoOrder place ms) (orders_there place ms) (orders_judged place ms))
+    (leads_judged (what_it_lacks (codes "trace-byte-order")) (HasNoOrder place ms) (orders_there place ms) (orders_judged place ms) (alone_first (HasNoOrder place ms) (orders_there place ms) (orders_judged place ms) (λ f g one other. one.3 ∙ sym other.3)))
     (λ p q f g a b. let (row, among, is, lacked) = lacks_turn ms (rows_of place) p f a in absurd (no_row_needed row (subst (λ x. Contains (rows_of x) row) b.1.0 among) lacked.0))
 
 -- ---- the walk has the first of them
 
 content_leads : (k : Known) (around : Around) → Agrees k around → (content : Content) (d : Data) → Leads (inner_flaws k content d) (InnerAt d around content) → Leads (content_flaws k content d) (ContentAt d around content)
 content_leads k around h content d inner =
-    leads_joined (ItselfAt around content d) (InnerAt d around content) (told_by (itself_of k content d)) (inner_flaws k content d) (leads_judged by_itself (IsNoValueOf around content d) (itself_of k content d) (value_judged k around h content d)) inner
+    leads_joined (ItselfAt around content d) (InnerAt d around content) (told_by (itself_of k content d)) (inner_flaws k content d) (leads_judged by_itself (IsNoValueOf around content d) (itself_of k content d) (value_judged k around h content d) (value_first k around h content d)) inner
     (λ p q f g a b. one_turn by_itself 2 p q a.0 (omega arith) (inner_from d around content q g b))
 
 -- of a property, where the walk has the first of what its value holds
@@ -162,7 +164,7 @@ module _ (k : Known) (around : Around) (place : Place) (all before : Members) (n
       → Leads (property_flaws k place name (resolved_content place name) d (inner_flaws k (unwrap_or (resolved_content place name) contents.Anything) d)) (PropertyAt around inner place name d (InnerAt d inner) (resolved_content place name))
   property_leads h held =
       by_found (λ (o : Option Content). Leads (property_flaws k place name o d (inner_flaws k (unwrap_or o contents.Anything) d)) (PropertyAt around inner place name d (InnerAt d inner) o)) (resolved_content place name)
-      (λ none. leads_judged by_itself (λ f. f ≡ here Unknown) (Err (here Unknown)) refl)
+      (λ none. leads_judged by_itself (λ f. f ≡ here Unknown) (Err (here Unknown)) refl (alone_first (λ f. f ≡ here Unknown) (Err (here Unknown)) refl (λ f g one other. one ∙ sym other)))
       (λ content is. by_test (λ (b : Bool). Leads (cond b [] (told_by (itself_of k content d) ++ (told_by (key_of k place name d) ++ inner_flaws k content d))) (PropertyAt around inner place name d (InnerAt d inner) (Some content))) (is_left_out place name d)
       (λ out q f wrong. false≢true (sym wrong.0 ∙ out))
       (λ stays.
@@ -170,9 +172,9 @@ module _ (k : Known) (around : Around) (place : Place) (all before : Members) (n
       let Rest : List Turn → Flaw → Type 0 = λ q f. Named q f ⊎ InnerAt d inner content q f in
       leads_where (is_left_out place name d ≡ false) (λ q f. ItselfAt inner content d q f ⊎ Rest q f) (told_by (itself_of k content d) ++ (told_by (key_of k place name d) ++ inner_flaws k content d)) stays
       (leads_joined (ItselfAt inner content d) Rest (told_by (itself_of k content d)) (told_by (key_of k place name d) ++ inner_flaws k content d)
-      (leads_judged by_itself (IsNoValueOf inner content d) (itself_of k content d) (value_judged k inner h content d))
+      (leads_judged by_itself (IsNoValueOf inner content d) (itself_of k content d) (value_judged k inner h content d) (value_first k inner h content d))
       (leads_joined Named (InnerAt d inner content) (told_by (key_of k place name d)) (inner_flaws k content d)
-      (leads_judged its_name (IsNoNameAt around place name d) (key_of k place name d) (name_judged k around h.taken place name d)) (held content)
+      (leads_judged its_name (IsNoNameAt around place name d) (key_of k place name d) (name_judged k around h.taken place name d) (name_first k around h.taken place name d)) (held content)
       (λ p q f g a b. one_turn its_name 2 p q a.0 (omega arith) (inner_from d inner content q g b)))
       (λ p q f g a b. one_turn by_itself 1 p q a.0 (omega arith) (elim b [ inl named ↦ from_turn its_name 2 q [] named.0 (omega arith) | inr wrong ↦ from_less 2 3 q (omega arith) (inner_from d inner content q g wrong) ])))))
 
@@ -188,12 +190,12 @@ mutual
       let shape_from : (n : ℕ) (q : List Turn) (f : Flaw) → n ≤ 6 → Shape q f → From n q = λ n q f least wrong. from_turn its_shape n q [] wrong.0 least in
       let rest_from : (n : ℕ) (q : List Turn) (f : Flaw) → n ≤ 5 → Held q f ⊎ Shape q f → From n q = λ n q f least wrong. elim wrong [ inl held ↦ (members_from n least ms around own ms no_members q f held).0 | inr shape ↦ shape_from n q f (omega (arith, least)) shape ] in
       leads_joined Class (λ q f. Lacking q f ⊎ (Held q f ⊎ Shape q f)) (told_by (class_rule place ms)) (told_by (all_there own ms) ++ (member_flaws (inside own ms k) own ms ++ told_by (shape_of place ms)))
-      (leads_judged its_class (IsNoClassAt place ms) (class_rule place ms) (class_judged place ms))
+      (leads_judged its_class (IsNoClassAt place ms) (class_rule place ms) (class_judged place ms) (class_first place ms))
       (leads_joined Lacking (λ q f. Held q f ⊎ Shape q f) (told_by (all_there own ms)) (member_flaws (inside own ms k) own ms ++ told_by (shape_of place ms))
       (missing_leads own ms)
       (leads_joined Held Shape (member_flaws (inside own ms k) own ms) (told_by (shape_of place ms))
       (members_lead ms (inside own ms k) around own ms no_members (inside_agrees k around h own ms) ascends.0 ascends.1)
-      (leads_judged its_shape (IsNoShapeAt place ms) (shape_of place ms) (shape_judged place ms))
+      (leads_judged its_shape (IsNoShapeAt place ms) (shape_of place ms) (shape_judged place ms) (shape_first place ms))
       (λ p q f g a b. rank_before 5 p q (members_from 5 (omega arith) ms around own ms no_members p f a).1 (shape_from 6 q g (omega arith) b)))
       (λ p q f g a b. let (name, is) = missing_turn own ms p f a in one_turn (what_it_lacks name) 4 p q is (omega arith) (rest_from 5 q g (omega arith) b)))
       (λ p q f g a b. one_turn its_class 3 p q a.0 (omega arith) (elim b [ inl lacking ↦ let (name, is) = missing_turn own ms q g lacking in from_turn (what_it_lacks name) 4 q [] is (omega arith) | inr rest ↦ rest_from 4 q g (omega arith) rest ]))
@@ -353,7 +355,7 @@ first_of d [] flaw h e = absurd cc
 first_of d (g ∷ rest) flaw (p, stands, first) e =
     let same : g ≡ flaw = cc in
     let (told, way) = content_is d [] (At places.Root) p g stands in
-    let is : IsFirstOf d g = (told, λ other wrong. subst (λ w. (w ≡ way_to wrong) ⊎ WayBefore w (way_to wrong)) (sym way) (first (way_to wrong) other (stands_at [] (At places.Root) d other wrong))) in
+    let is : IsFirstOf d g = (told, λ other wrong. subst (λ w. WayBefore w (way_to wrong) ⊎ ((w ≡ way_to wrong) × IsSameOrBefore g other)) (sym way) (first (way_to wrong) other (stands_at [] (At places.Root) d other wrong))) in
     subst (IsFirstOf d) same is
 
 pub first_found : (d : Data) (flaw : Flaw) → Ascends d → refusal (configuration_flaws d) ≡ Err flaw → IsFirstOf d flaw

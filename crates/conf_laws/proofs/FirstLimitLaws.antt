@@ -1,13 +1,14 @@
 -- The limit that a walk over a configuration answers is the first by the table: it stands before each other one that the configuration
 -- passes.
 use Rattle.std.proofs.Common.{◌≡◌, ◌⊎◌, ◌↔◌, ◌+◌, ◌≤◌, ℕ, zero, suc, Bool, true, false, List, [], ◌∷◌, ◌++◌, map, Option, Some, None, unwrap_or, Err, inl, inr, refl, sym, ap, subst, ◌∙◌, arith}
+use Rattle.conf_laws.specs.FlawOrder.{OuterBefore}
 use Rattle.conf_laws.specs.WalkOrder.{Turn, its_label, by_itself, what_it_holds, WayBefore, way_to_limit, IsFirstLimitOf}
 use Rattle.conf_laws.proofs.Agreement.{IsFrom, from_start, from_next, item_here}
 use Rattle.conf_laws.proofs.Readings.{by_found}
 use Rattle.conf_laws.proofs.TableLimitLaws.{by_fails, IsLongLabel, label_fails, unknown_fits}
 use Rattle.conf_laws.proofs.ValueFlawLaws.{IsJudged}
-use Rattle.conf_laws.proofs.WalkOrderLaws.{one_before, From, from_turn, from_less, one_turn, above, Leads, leads_judged, leads_joined, Within, leads_within}
-use Rattle.conf_laws.proofs.Words.{Place, At, Content, content_under, PassesBy, PassesLimitOf, told_by, within_limit, fits, key_fits, inner_limits, item_limits, member_limits, content_limits, configuration_limits, place_of_properties, item_content, Flaw, key, index, here, within, Limit, HasMember, refusal, Ascends, IsInOrder, ItemsAscend, MembersAscend, Data, object, Members, array, Items, no_items, item, no_members, member, get_item, true≢false}
+use Rattle.conf_laws.proofs.WalkOrderLaws.{one_before, From, from_turn, from_less, one_turn, above, TellsFirst, alone_first, Leads, leads_judged, leads_joined, Within, leads_within}
+use Rattle.conf_laws.proofs.Words.{Place, At, Content, content_under, PassesBy, PassesLimitOf, told_by, within_limit, fits, key_fits, inner_limits, item_limits, member_limits, content_limits, configuration_limits, place_of_properties, item_content, Flaw, PathPart, key, index, here, within, Limit, HasMember, refusal, Ascends, IsInOrder, ItemsAscend, MembersAscend, Data, object, Members, array, Items, no_items, item, no_members, member, get_item, true≢false}
 use Rattle.conf_laws.proofs.Words.places
 use Rattle.conf_laws.proofs.Words.contents
 
@@ -69,9 +70,12 @@ limit_judged : (P : Type 0) (b : Bool) → (b ≡ false) ↔ P → IsJudged (wit
 limit_judged P true same = λ f passed. true≢false (same.1 passed.0)
 limit_judged P false same = (same.0 refl, refl)
 
+limit_first : (P : Type 0) (b : Bool) → (b ≡ false) ↔ P → TellsFirst (within_limit b) (λ f. P × (f ≡ here Limit))
+limit_first P b same = alone_first (λ f. P × (f ≡ here Limit)) (within_limit b) (limit_judged P b same) (λ f g one other. one.1 ∙ sym other.1)
+
 content_leads : (d : Data) (content : Content) → Leads (inner_limits content d) (InnerAt d content) → Leads (content_limits content d) (ContentAt d content)
 content_leads d content inner =
-    leads_joined (LargeAt content d) (InnerAt d content) (told_by (within_limit (fits content d))) (inner_limits content d) (leads_judged by_itself (λ f. PassesBy content d × (f ≡ here Limit)) (within_limit (fits content d)) (limit_judged (PassesBy content d) (fits content d) (by_fails content d))) inner
+    leads_joined (LargeAt content d) (InnerAt d content) (told_by (within_limit (fits content d))) (inner_limits content d) (leads_judged by_itself (λ f. PassesBy content d × (f ≡ here Limit)) (within_limit (fits content d)) (limit_judged (PassesBy content d) (fits content d) (by_fails content d)) (limit_first (PassesBy content d) (fits content d) (by_fails content d))) inner
     (λ p q f g a b. one_turn by_itself 1 p q a.0 (omega arith) (inner_from d content q g b))
 
 -- of a property, with its label before it
@@ -83,7 +87,7 @@ property_leads place name d inner =
     (λ content is. leads_joined (LabelAt place name) (ContentAt d content) (told_by (within_limit (key_fits place name))) (content_limits content d) label (content_leads d content (inner content)) (λ p q f g a b. one_turn its_label 0 p q a.0 (omega arith) (content_from d content q g b)))
   where
     label : Leads (told_by (within_limit (key_fits place name))) (LabelAt place name)
-    label = leads_judged its_label (λ f. IsLongLabel place name × (f ≡ here Limit)) (within_limit (key_fits place name)) (limit_judged (IsLongLabel place name) (key_fits place name) (label_fails place name))
+    label = leads_judged its_label (λ f. IsLongLabel place name × (f ≡ here Limit)) (within_limit (key_fits place name)) (limit_judged (IsLongLabel place name) (key_fits place name) (label_fails place name)) (limit_first (IsLongLabel place name) (key_fits place name) (label_fails place name))
 
 mutual
   inner_leads : (d : Data) → Ascends d → (content : Content) → Leads (inner_limits content d) (InnerAt d content)
@@ -192,11 +196,68 @@ first_of d (g ∷ rest) flaw (p, stands, first) e =
     let is : IsFirstLimitOf d g = (
       told,
       λ other passed. elim (first (way_to_limit passed) other (stands_at (At places.Root) d other passed)) [
-        | inl alike ↦ inl (limit_by_way (At places.Root) d g told ∙ ap told_at (way ∙ alike) ∙ sym (limit_by_way (At places.Root) d other passed))
-        | inr less ↦ inr (subst (λ w. WayBefore w (way_to_limit passed)) (sym way) less)
+        | inl less ↦ inr (subst (λ w. WayBefore w (way_to_limit passed)) (sym way) less)
+        | inr (alike, first) ↦ inl (limit_by_way (At places.Root) d g told ∙ ap told_at (way ∙ alike) ∙ sym (limit_by_way (At places.Root) d other passed))
       ],
     ) in
     subst (IsFirstLimitOf d) same is
 
 pub first_limit_found : (d : Data) (flaw : Flaw) → Ascends d → refusal (configuration_limits d) ≡ Err flaw → IsFirstLimitOf d flaw
 first_limit_found d flaw ascends e = first_of d (configuration_limits d) flaw (content_leads d (At places.Root) (inner_leads d ascends (At places.Root))) e
+
+-- ---- the first limit is the first by its place
+
+-- to the label of an entry or to a value, in what others hold
+data IsLimitWay : List Turn → Type 0 where
+  to_label : IsLimitWay (its_label ∷ [])
+  to_value : IsLimitWay (by_itself ∷ [])
+  further : (part : PathPart) (way : List Turn) → IsLimitWay way → IsLimitWay (what_it_holds part ∷ way)
+
+is_limit_way : (content : Content) (d : Data) (f : Flaw) (passed : PassesLimitOf content d f) → IsLimitWay (way_to_limit passed)
+is_limit_way content d f (PassesLimitOf.too_large passed) = to_value
+is_limit_way content d f (PassesLimitOf.long_label label v entries has is labels long) = further (key label) (its_label ∷ []) to_label
+is_limit_way content d f (PassesLimitOf.in_property name v inner g has is passed) = further (key name) (way_to_limit passed) (is_limit_way inner v g passed)
+is_limit_way content d f (PassesLimitOf.in_item {place = place} i v g is passed) = further (index i) (way_to_limit passed) (is_limit_way (item_content place) v g passed)
+
+-- one place, or one before the other
+abbrev Outer : Flaw → Flaw → Type 0
+Outer f g = (f ≡ g) ⊎ OuterBefore f.path g.path
+
+outer_within : (part : PathPart) (f g : Flaw) → Outer f g → Outer (within part f) (within part g)
+outer_within part f g (inl same) = inl (ap (within part) same)
+outer_within part f g (inr less) = inr (inr (refl, less))
+
+by_way : (p q : List Turn) → IsLimitWay p → IsLimitWay q → WayBefore p q → Outer (told_at p) (told_at q)
+by_way p q (further a way one) (further b rest other) (inl (inl less)) = absurd (omega (arith, less))
+by_way p q (further a way one) (further b rest other) (inl (inr part)) = inr (inl part)
+by_way p q (further a way one) (further b rest other) (inr (same, less)) =
+    let part : a ≡ b = cc in
+    subst (λ x. Outer (within a (told_at way)) (within x (told_at rest))) part (outer_within a (told_at way) (told_at rest) (by_way way rest one other less))
+by_way p q (further a way one) to_label (inl (inl less)) = absurd (omega (arith, less))
+by_way p q (further a way one) to_label (inl (inr part)) = absurd part
+by_way p q (further a way one) to_label (inr (same, less)) = absurd cc
+by_way p q (further a way one) to_value (inl (inl less)) = absurd (omega (arith, less))
+by_way p q (further a way one) to_value (inl (inr part)) = absurd part
+by_way p q (further a way one) to_value (inr (same, less)) = absurd cc
+by_way p q to_label (further b rest other) less = inr tt
+by_way p q to_value (further b rest other) less = inr tt
+by_way p q to_label to_label less = inl refl
+by_way p q to_label to_value less = inl refl
+by_way p q to_value to_label less = inl refl
+by_way p q to_value to_value less = inl refl
+
+pub first_by_place : (d : Data) (flaw other : Flaw) → IsFirstLimitOf d flaw → PassesLimitOf (At places.Root) d other → (flaw ≡ other) ⊎ OuterBefore flaw.path other.path
+first_by_place d flaw other (told, first) passed = elim (first other passed) [
+  | inl same ↦ inl same
+  | inr less ↦
+      let one : flaw ≡ told_at (way_to_limit told) = limit_by_way (At places.Root) d flaw told in
+      let two : other ≡ told_at (way_to_limit passed) = limit_by_way (At places.Root) d other passed in
+      let outer = by_way (way_to_limit told) (way_to_limit passed) (is_limit_way (At places.Root) d flaw told) (is_limit_way (At places.Root) d other passed) less in
+      subst (λ f. Outer f other) (sym one) (subst (Outer (told_at (way_to_limit told))) (sym two) outer)
+]
+
+pub limit_kind : (content : Content) (d : Data) (f : Flaw) → PassesLimitOf content d f → f.kind ≡ Limit
+limit_kind content d f (PassesLimitOf.too_large passed) = refl
+limit_kind content d f (PassesLimitOf.long_label label v entries has is labels long) = refl
+limit_kind content d f (PassesLimitOf.in_property name v inner g has is passed) = limit_kind inner v g passed
+limit_kind content d f (PassesLimitOf.in_item {place = place} i v g is passed) = limit_kind (item_content place) v g passed

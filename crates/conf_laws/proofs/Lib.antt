@@ -10,7 +10,9 @@ pub mod Agreement
 pub mod ValueFlawLaws
 pub mod TableLimitLaws
 pub mod WalkOrderLaws
+pub mod FirstAtTurn
 pub mod FirstFlawLaws
 pub mod FirstLimitLaws
 pub mod Worked
 pub mod WorkedOrder
+pub mod NamesInOrder

@@ -3,7 +3,7 @@
 use Rattle.std.proofs.Common.{◌≡◌, ◌≤◌, ℕ, ℤ, pos, negsuc, true, false, List, Some, Ok, nat_le, arith, refl, ap, subst, ◌∙◌, ◌<◌, Bool, int_le, codes, option_and_then, unwrap_or}
 use Rattle.conf_laws.proofs.Readings.{optional_found}
 use Rattle.conf_laws.proofs.Sound.{HasRow, RowsSound, needed_sound}
-use Rattle.conf_laws.proofs.Words.{IsWhole, IsRange, Place, Whole, Needed, is_null, itself_of, Known, leaf_of, whole_from, is_power_of_two, divides, numbers_of, end_of, pair_of, single_of, range_of, index, whole_of, at, both_read, read_there, ok_same, as_natural, Data, Members, array, Items, no_items, item, nat_tests, is_alignment, alignment, natural, lowest, highest, integer_align, default_align, default_number, size_of, align_of}
+use Rattle.conf_laws.proofs.Words.{LARGEST_ALIGN, IsWhole, IsRange, Place, Whole, Needed, is_null, itself_of, Known, leaf_of, whole_from, is_power_of_two, divides, numbers_of, end_of, pair_of, single_of, range_of, index, whole_of, at, both_read, read_there, ok_same, as_natural, Data, Members, array, Items, no_items, item, nat_tests, is_alignment, alignment, natural, lowest, highest, integer_align, default_align, default_number, size_of, align_of}
 use Rattle.conf_laws.proofs.Words.places
 
 -- a whole number that was read, and that it is between its bounds
@@ -84,7 +84,7 @@ pub alignment_or : (name : List ℕ) (otherwise : ℕ) (ms : Members) → is_ali
 unfolding alignment
 alignment_or name otherwise ms default = grind (arith, default)
 
-module _ (ms : Members) (n : ℕ) (power : is_power_of_two (pos n) ≡ true) (fits : divides 4096 (Some n) ≡ true) where
+module _ (ms : Members) (n : ℕ) (power : is_power_of_two (pos n) ≡ true) (fits : divides LARGEST_ALIGN (Some n) ≡ true) where
   kept : (name : List ℕ) → natural name ms ≡ Some n → alignment name ms ≡ Some n
   unfolding alignment
   kept name is = grind (arith, nat_tests, power, fits, is)

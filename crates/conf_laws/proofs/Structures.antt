@@ -7,22 +7,22 @@ use Rattle.conf_laws.proofs.AllowedMaps.{plain_name, integer_says, enumeration_s
 use Rattle.conf_laws.proofs.Numbers.{alignment_or, needed_natural}
 use Rattle.conf_laws.proofs.Readings.{Says, proved_says, element_is, all_joined, under_no_test, optional_found, some_there, by_found, by_test, element_bits, in_array, by_element, same_natural}
 use Rattle.conf_laws.proofs.Sound.{HasRow, RowsSound, ContentSound, ObjectSound, object_sound, needed_sound, type_sound, class_place, object_at, content_sound, first_item, rows_sound, first_entry, optional_sound, IsWithin, AreWithin, AreItemsWithin, object_within, property_within, optional_within, entry_within, is_within, first_item_limits, fitting_parts, TypeSound}
-use Rattle.conf_laws.proofs.Words.{false_from_ne_true, nat_tests, chain_of, and_parts, default_number, is_alignment, presence_under, rows_of, Presence, admits_class, is_dynamic_array, Place, At, entries_of, at_most, itself_of, form_of, Known, inside, is_position, inner_flaws, item_flaws, member_flaws, nothing, with_taken, take, is_taken, key_of, key_by, free_of, is_dynamic, class_of, class_of_member, elements, fits, arrays_fit, is_outermost, shape_of, with_names, names_beside, own_place, place_of_properties, item_content, Members, Data, object, get_member, optional, is_passed, items_len, both_read, plain_name_of, Items, no_items, item, no_members, member, array, as_array, as_object, false≢true, or_parts, All-push, All-nil, All-from_recursion, map-append, bytes_eq-Decides, IsDistinct, option_map_or, AllByRecursion, list_any, bytes_eq, field_type, element, object_at as object_named, list as list_in, member_type, member_said as member_of, behind_done, members_behind, made, align_for, listed, align_of, structure_of, structure, extra_members, names_in, own_names, IsPlainName, IsConfigMember, AreConfigMembers, IsConfigStruct, StructType, length_name, shown_members, Auto, AtMember, Plain, Dyn, MemberType, is_class, any_object, at_least_one, times, natural_in, is_static_array, has_bits, length_of, of_class, natural, IsNest, elements_of, IsConfigLeaf, Int, Enum, Str, Static, FieldType}
+use Rattle.conf_laws.proofs.Words.{LARGEST_ALIGN, MAX_ARRAYS, MAX_CONFIG_MEMBERS, MAX_ELEMENTS, false_from_ne_true, nat_tests, chain_of, and_parts, default_number, is_alignment, presence_under, rows_of, Presence, admits_class, is_dynamic_array, Place, At, entries_of, at_most, itself_of, form_of, Known, inside, is_position, inner_flaws, item_flaws, member_flaws, nothing, with_taken, take, is_taken, key_of, key_by, free_of, is_dynamic, class_of, class_of_member, elements, fits, arrays_fit, is_outermost, shape_of, with_names, names_beside, own_place, place_of_properties, item_content, Members, Data, object, get_member, optional, is_passed, items_len, both_read, plain_name_of, Items, no_items, item, no_members, member, array, as_array, as_object, false≢true, or_parts, All-push, All-nil, All-from_recursion, map-append, bytes_eq-Decides, IsDistinct, option_map_or, AllByRecursion, list_any, bytes_eq, field_type, element, object_at as object_named, list as list_in, member_type, member_said as member_of, behind_done, members_behind, made, align_for, listed, align_of, structure_of, structure, extra_members, names_in, own_names, IsPlainName, IsConfigMember, AreConfigMembers, IsConfigStruct, StructType, length_name, shown_members, Auto, AtMember, Plain, Dyn, MemberType, is_class, any_object, at_least_one, times, natural_in, is_static_array, has_bits, length_of, of_class, natural, IsNest, elements_of, IsConfigLeaf, Int, Enum, Str, Static, FieldType}
 use Rattle.conf_laws.proofs.Words.places
 
 -- its static arrays nest no deeper than these levels, and have n elements in all
 record Nests (levels n : ℕ) (t : FieldType) : Type 0 where
   deep : length (chain_of t).lengths ≤ levels
   size : elements_of (chain_of t).lengths ≡ n
-  few : n ≤ 1048576
+  few : n ≤ MAX_ELEMENTS
 
 pub record IsAllowed (d : Data) (t : FieldType) : Type 0 where
   pub leaf : IsConfigLeaf (chain_of t).leaf
   pub bits : has_bits d ≡ true → AllByRecursion (λ n. 0 < n) (chain_of t).lengths
   nests : (levels n : ℕ) → elements levels d ≡ Some n → Nests levels n t
 
-pub nest_allowed : (d : Data) (t : FieldType) (n : ℕ) → IsAllowed d t → elements 8 d ≡ Some n → IsNest (chain_of t).lengths
-nest_allowed d t n h e = let nests = h.nests 8 n e in let size = nests.size in let few = nests.few in record { depth = nests.deep; size = omega (arith, size, few) }
+pub nest_allowed : (d : Data) (t : FieldType) (n : ℕ) → IsAllowed d t → elements MAX_ARRAYS d ≡ Some n → IsNest (chain_of t).lengths
+nest_allowed d t n h e = let nests = h.nests MAX_ARRAYS n e in let size = nests.size in let few = nests.few in record { depth = nests.deep; size = omega (arith, size, few) }
 
 -- no array
 module _ (ms : Members) (class : Place) (is : class_of ms ≡ Some class) (other : is_static_array class ≡ false) where
@@ -37,7 +37,7 @@ module _ (ms : Members) (class : Place) (is : class_of ms ≡ Some class) (other
 -- ---- static arrays
 
 -- the product of two counts, where it is not too large
-times_told : (a b : Option ℕ) (m : ℕ) → times a b ≡ Some m → (first second : ℕ) × (a ≡ Some first) × (b ≡ Some second) × (m ≡ first * second) × (m ≤ 1048576)
+times_told : (a b : Option ℕ) (m : ℕ) → times a b ≡ Some m → (first second : ℕ) × (a ≡ Some first) × (b ≡ Some second) × (m ≡ first * second) × (m ≤ MAX_ELEMENTS)
 times_told a b m e = grind (arith, nat_tests, e)
 
 -- an array of so many of these
@@ -70,8 +70,8 @@ unfolding of_class length_of rows_of
 array_says k ms is h inner =
     let (d, found, sound) = needed_sound k places.StaticArray (codes "element-field-type") (At places.ElementType) ms (refl, refl) h in
     let x = inner d found k sound.value in
-    let n = needed_natural k places.StaticArray (codes "length") 0 1048576 ms (refl, refl) h (omega arith) in
-    let fits : nat_le (length_of ms) 1048576 ≡ true = subst (λ o. nat_le (unwrap_or o 0) 1048576 ≡ true) (sym n.1) n.3 in
+    let n = needed_natural k places.StaticArray (codes "length") 0 MAX_ELEMENTS ms (refl, refl) h (omega arith) in
+    let fits : nat_le (length_of ms) MAX_ELEMENTS ≡ true = subst (λ o. nat_le (unwrap_or o 0) MAX_ELEMENTS ≡ true) (sym n.1) n.3 in
     let said : element ms ≡ Some x.0 = element_is ms ∙ ap (option_and_then field_type) found ∙ x.1 in
     (Static (chain_of x.0) (length_of ms), rw (said, fits) refl, λ good. array_allowed ms (ap (λ o. option_map_or is_static_array o false) is) n.0 n.1 d x.0 found (x.2 (property_within places.StaticArray (codes "element-field-type") (At places.ElementType) (refl, refl) ms d good found)))
 
@@ -228,7 +228,7 @@ elements_say k ms h =
     let found : get_member (codes "element-field-type") ms ≡ Some (object os) = there ∙ ap Some same in
     let allowed : AreWithin places.DynamicArray ms → IsConfigMember (Dyn x.0 Auto) = λ h.
     let good = property_within places.DynamicArray (codes "element-field-type") (At places.DynamicElementType) (refl, refl) ms (object os) h found in
-    let nests = some_there (elements 8 (object os)) (fitting_parts places.DynamicElementType (object os) good.fitting).0 in
+    let nests = some_there (elements MAX_ARRAYS (object os)) (fitting_parts places.DynamicElementType (object os) good.fitting).0 in
     let one = x.2 good in
     ((one.leaf, nest_allowed (object os) x.0 nests.0 one nests.1), All-from_recursion (λ n. 0 < n) (chain_of x.0).lengths (one.bits (is_passed _ tt tt _ t.shape).0)) in
     (x.0, element_is ms ∙ ap (option_and_then field_type) found ∙ x.1, allowed)
@@ -250,7 +250,7 @@ member_says k ms h =
       | inr other ↦
           let plain : option_map_or is_dynamic_array (class_of ms) false ≡ false = ap (λ o. option_map_or is_dynamic_array o false) t.is ∙ other.0 in
           let x = type_says k places.MemberType ms refl t other.1 in
-          (Plain x.0, rw (plain, x.1) refl, ((λ name. ap (λ b. names_by b name) plain), λ good. let nests = some_there (elements 8 (object ms)) (fitting_parts places.MemberType (object ms) good.fitting).0 in let allowed = x.2 good in (allowed.leaf, nest_allowed (object ms) x.0 nests.0 allowed nests.1)))
+          (Plain x.0, rw (plain, x.1) refl, ((λ name. ap (λ b. names_by b name) plain), λ good. let nests = some_there (elements MAX_ARRAYS (object ms)) (fitting_parts places.MemberType (object ms) good.fitting).0 in let allowed = x.2 good in (allowed.leaf, nest_allowed (object ms) x.0 nests.0 allowed nests.1)))
     ]
 
 -- what the value of an entry tells of
@@ -322,9 +322,9 @@ no_members_allowed : AreConfigMembers []
 unfolding shown_members IsDistinct
 no_members_allowed = record { types = All-nil (λ m. IsConfigMember m.1); names = All-nil IsPlainName; distinct = tt; few = omega arith }
 
--- the members of a list of 256 entries at most, apart from names that were taken before
+-- the members of a list of at most so many entries, apart from names that were taken before
 module _ (k : Known) (around : Place) {place : Place} (name : List ℕ) {presence : Presence} (row : HasRow around name presence (At place)) (ms : Members) (form : (d : Data) → itself_of k (At place) d ≡ form_of nothing places.Members d) (entries : item_content place ≡ At places.Entry)
-    (most : (n : ℕ) → at_most (entries_of place) n ≡ nat_le n 256) (f : member_flaws k around ms ≡ []) (before : List (List ℕ)) (taken : AreTaken (names_beside place) before) where
+    (most : (n : ℕ) → at_most (entries_of place) n ≡ nat_le n MAX_CONFIG_MEMBERS) (f : member_flaws k around ms ≡ []) (before : List (List ℕ)) (taken : AreTaken (names_beside place) before) where
   abbrev IsListed : List (List ℕ × MemberType) → Type 0
   IsListed members = AreApart before (shown_of members) × (AreWithin around ms → AreConfigMembers members)
 
@@ -340,7 +340,7 @@ module _ (k : Known) (around : Place) {place : Place} (name : List ℕ) {presenc
       let counted = all.2.counted in
       let allowed : AreWithin around ms → AreConfigMembers all.0 = λ h.
       let good = subst (λ x. IsWithin (At place) x) s.1 (optional_within around name (At place) row ms d h is) in
-      let short = leb-true (items_len s.0) 256 (sym (most (items_len s.0)) ∙ (fitting_parts place (array s.0) good.fitting).1) in
+      let short = leb-true (items_len s.0) MAX_CONFIG_MEMBERS (sym (most (items_len s.0)) ∙ (fitting_parts place (array s.0) good.fitting).1) in
       record { types = all.2.types (All-nil (λ m. IsConfigMember m.1)) (record { limits = good.inner; ascend = good.ascends }); names = named.names; distinct = named.shown.distinct; few = omega (arith, counted, short) } in
       subst (λ x. Says (members_behind [] (unwrap_or (as_array x) no_items)) IsListed) (sym s.1) (all.0, all.1, (named.shown.free, allowed))
 
@@ -353,8 +353,8 @@ module _ (k : Known) (around : Place) {place : Place} (name : List ℕ) {presenc
 made_says : (members : List (List ℕ × MemberType)) (align : ℕ) → is_alignment align ≡ true → Says (made members align) (λ s. (s.members ≡ members) × (s.min_align ≡ align))
 unfolding made
 made_says members align a =
-    let p = and_parts (nat_lt 0 align) (4096 % align == 0) a in
-    proved_says (λ s. (s.members ≡ members) × (s.min_align ≡ align)) (nat_lt 0 align) _ p.0 (λ _. proved_says (λ s. (s.members ≡ members) × (s.min_align ≡ align)) (4096 % align == 0) _ p.1 (λ _. (_, refl, (refl, refl))))
+    let p = and_parts (nat_lt 0 align) (LARGEST_ALIGN % align == 0) a in
+    proved_says (λ s. (s.members ≡ members) × (s.min_align ≡ align)) (nat_lt 0 align) _ p.0 (λ _. proved_says (λ s. (s.members ≡ members) × (s.min_align ≡ align)) (LARGEST_ALIGN % align == 0) _ p.1 (λ _. (_, refl, (refl, refl))))
 
 aligned : (members : List (List ℕ × MemberType)) (align : ℕ) → is_alignment align ≡ true → is_alignment (align_for members align) ≡ true
 aligned members align a = grind (arith, a)

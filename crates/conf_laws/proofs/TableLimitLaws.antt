@@ -5,7 +5,7 @@ use Rattle.conf_laws.proofs.Readings.{some_same, at_member, class_told, only_sta
 use Rattle.conf_laws.proofs.Sound.{fits_there, limits_at, first_limits, first_item_limits}
 use Rattle.conf_laws.proofs.TableFlawLaws.{seen, refused_among}
 use Rattle.conf_laws.proofs.ValueFlawLaws.{none_there}
-use Rattle.conf_laws.proofs.Words.{All-weaker, All-append, All, HasMember, get_item, IsArray, HasElement, Nest, product, HasTooManyElements, PassesAt, IsLongText, IsNoPowerUpTo, PassesBy, PassesLimitOf, entries_of, content_under, Place, Content, Entries, class_of, told_by, times, at_least_one, elements, elements_in_array, within_limit, bytes_fit, power_fits, is_outermost, arrays_fit, count_of, at_most, ranges_fit, place_fits, fits, key_fits, inner_limits, item_limits, member_limits, configuration_limits, content_limits, natural_in, place_of_properties, item_content, is_static_array, Flaw, key, index, here, within, refusal, Limit, Data, object, Members, array, Items, no_items, item, no_members, member, get_member, nat_tests, mul-one, one-le-mul, mul-mod_right, leb-true, leb-false, true≢false, and_cases, All-nil, All-cons, All-contains, mul-le, option_map_or}
+use Rattle.conf_laws.proofs.Words.{MAX_ARRAYS, MAX_ELEMENTS, MAX_LABEL_BYTES, All-weaker, All-append, All, HasMember, get_item, IsArray, HasElement, Nest, product, HasTooManyElements, PassesAt, IsLongText, IsNoPowerUpTo, PassesBy, PassesLimitOf, entries_of, content_under, Place, Content, Entries, class_of, told_by, times, at_least_one, elements, elements_in_array, within_limit, bytes_fit, power_fits, is_outermost, arrays_fit, count_of, at_most, ranges_fit, place_fits, fits, key_fits, inner_limits, item_limits, member_limits, configuration_limits, content_limits, natural_in, place_of_properties, item_content, is_static_array, Flaw, key, index, here, within, refusal, Limit, Data, object, Members, array, Items, no_items, item, no_members, member, get_member, nat_tests, mul-one, one-le-mul, mul-mod_right, leb-true, leb-false, true≢false, and_cases, All-nil, All-cons, All-contains, mul-le, option_map_or}
 use Rattle.conf_laws.proofs.Words.places
 use Rattle.conf_laws.proofs.Words.contents
 use Rattle.conf_laws.proofs.Words.keys
@@ -22,11 +22,11 @@ record Counted (levels : ℕ) (d : Data) (m : ℕ) : Type 0 where
   nest : (ns : List ℕ) × Nest d ns × (product ns ≡ m)
   some : 1 ≤ m
   most : (e : Data) (ns : List ℕ) → Nest e ns → e ≡ d → (product ns ≤ m) × (length ns ≤ levels)
-  few : (ms : Members) (element : Data) → d ≡ object ms → HasElement ms element → m ≤ 1048576
+  few : (ms : Members) (element : Data) → d ≡ object ms → HasElement ms element → m ≤ MAX_ELEMENTS
 
 -- what is not counted is too deep, or too many
 abbrev Measured : ℕ → Data → Option ℕ → Type 0
-Measured levels d None = ((ns : List ℕ) × Nest d ns × (levels < length ns)) ⊎ ((ms : Members) × (element : Data) × (ns : List ℕ) × (d ≡ object ms) × HasElement ms element × Nest d ns × (1048576 < product ns))
+Measured levels d None = ((ns : List ℕ) × Nest d ns × (levels < length ns)) ⊎ ((ms : Members) × (element : Data) × (ns : List ℕ) × (d ≡ object ms) × HasElement ms element × Nest d ns × (MAX_ELEMENTS < product ns))
 Measured levels d (Some m) = Counted levels d m
 
 single : (levels : ℕ) (d : Data) → ((ms : Members) (n : ℕ) → d ≡ object ms → ¬ IsArray ms n) → Counted levels d 1
@@ -49,7 +49,7 @@ module _ (ms : Members) (n : ℕ) (is_one : IsArray ms n) (some : 1 ≤ n) (leve
       most : (e : Data) (ns : List ℕ) → Nest e ns → e ≡ object ms → (product ns ≤ n) × (length ns ≤ suc levels)
       most e ns nest same = grind (arith, some, none, mul-one, same_count, nest, same)
 
-  around : (element : Data) (k : ℕ) → HasElement ms element → Counted levels element k → n * k ≤ 1048576 → Counted (suc levels) (object ms) (n * k)
+  around : (element : Data) (k : ℕ) → HasElement ms element → Counted levels element k → n * k ≤ MAX_ELEMENTS → Counted (suc levels) (object ms) (n * k)
   around element k has inner fits = record { nest = (n ∷ inner.nest.0, Nest.around_others ms n element inner.nest.0 is_one has inner.nest.1, ap (λ x. n * x) inner.nest.2); some = one-le-mul some inner.some; most = most; few = λ ns e same there. fits }
     where
       most : (e : Data) (ns : List ℕ) → Nest e ns → e ≡ object ms → (product ns ≤ n * k) × (length ns ≤ suc levels)
@@ -69,8 +69,8 @@ array_measured levels ms n is_one some inner (Some element) has = go (elements l
     go None (inl (ns, nest, deep)) = inl (n ∷ ns, Nest.around_others ms n element ns is_one has nest, omega (arith, deep))
     go None (inr (os, other, ns, same, has_too, nest, many)) = let more : 1 * product ns ≤ n * product ns = mul-le 1 (product ns) n (product ns) some (omega arith) in inr (ms, element, n ∷ ns, refl, has, Nest.around_others ms n element ns is_one has nest, omega (arith, many, more))
     go (Some k) counted =
-        by_test (λ (b : Bool). Measured (suc levels) (object ms) (cond b (Some (n * k)) None)) (nat_le (n * k) 1048576) (λ fits. around ms n is_one some levels element k has counted (leb-true (n * k) 1048576 fits))
-        (λ large. inr (ms, element, n ∷ counted.nest.0, refl, has, Nest.around_others ms n element counted.nest.0 is_one has counted.nest.1, subst (λ x. 1048576 < n * x) (sym counted.nest.2) (leb-false (n * k) 1048576 large)))
+        by_test (λ (b : Bool). Measured (suc levels) (object ms) (cond b (Some (n * k)) None)) (nat_le (n * k) MAX_ELEMENTS) (λ fits. around ms n is_one some levels element k has counted (leb-true (n * k) MAX_ELEMENTS fits))
+        (λ large. inr (ms, element, n ∷ counted.nest.0, refl, has, Nest.around_others ms n element counted.nest.0 is_one has counted.nest.1, subst (λ x. MAX_ELEMENTS < n * x) (sym counted.nest.2) (leb-false (n * k) MAX_ELEMENTS large)))
 
 measured : (levels : ℕ) (d : Data) → Measured levels d (elements levels d)
 measured zero (object ms) =
@@ -84,13 +84,13 @@ measured (suc levels) (object ms) =
     (array_measured levels ms some.0 (class_told is_static_array places.StaticArray only_static (class_of ms) is, some.1) some.2 (measured levels) _ refl)) (λ is. single (suc levels) (object ms) (λ ns n. no_array ms ns n is))
 measured levels d = single levels d (λ ms n is. absurd cc)
 
-elements_told : (d : Data) → elements 8 d ≡ None → HasTooManyElements d
-elements_told d e = elim (subst (Measured 8 d) e (measured 8 d)) [
+elements_told : (d : Data) → elements MAX_ARRAYS d ≡ None → HasTooManyElements d
+elements_told d e = elim (subst (Measured MAX_ARRAYS d) e (measured MAX_ARRAYS d)) [
   | inl (ns, nest, deep) ↦ HasTooManyElements.too_deep ns nest deep
   | inr (ms, element, ns, is, has, nest, many) ↦ HasTooManyElements.too_many ms element ns is has nest many
 ]
 
-counted_few : (d : Data) (m : ℕ) → Counted 8 d m → ¬ HasTooManyElements d
+counted_few : (d : Data) (m : ℕ) → Counted MAX_ARRAYS d m → ¬ HasTooManyElements d
 counted_few d m counted many = grind (arith, counted, many)
 
 -- ---- a value by itself
@@ -112,7 +112,7 @@ module _ (place : Place) (d : Data) where
   arrays_told : arrays_fit place d ≡ false → PassesAt place d
   unfolding arrays_fit
   arrays_told e =
-      by_test (λ (b : Bool). cond b (is_some (elements 8 d)) true ≡ false → PassesAt place d) (is_outermost place) (λ is f. PassesAt.too_many_elements is (elements_told d (none_there (elements 8 d) f))) (λ is f. absurd cc) e
+      by_test (λ (b : Bool). cond b (is_some (elements MAX_ARRAYS d)) true ≡ false → PassesAt place d) (is_outermost place) (λ is f. PassesAt.too_many_elements is (elements_told d (none_there (elements MAX_ARRAYS d) f))) (λ is f. absurd cc) e
 
 ranges_told : (place : Place) (d : Data) → ranges_fit place d ≡ false → PassesAt place d
 unfolding ranges_fit
@@ -129,7 +129,7 @@ at_fails : (place : Place) (d : Data) → PassesAt place d → place_fits place 
 unfolding place_fits ranges_fit arrays_fit
 at_fails place d (PassesAt.too_many_entries entries most is number_is more) = grind (arith, nat_tests, is, number_is, more)
 at_fails place d (PassesAt.too_many_ranges is more) = grind (arith, nat_tests, is, more)
-at_fails place d (PassesAt.too_many_elements outermost many) = grind (arith, nat_tests, outermost, by_found (λ (o : Option ℕ). Measured 8 d o → is_some o ≡ false) (elements 8 d) (λ none m. refl) (λ m some counted. absurd (counted_few d m counted many)) (measured 8 d))
+at_fails place d (PassesAt.too_many_elements outermost many) = grind (arith, nat_tests, outermost, by_found (λ (o : Option ℕ). Measured MAX_ARRAYS d o → is_some o ≡ false) (elements MAX_ARRAYS d) (λ none m. refl) (λ m some counted. absurd (counted_few d m counted many)) (measured MAX_ARRAYS d))
 
 pub by_fails : (content : Content) (d : Data) → (fits content d ≡ false) ↔ PassesBy content d
 unfolding fits
@@ -142,7 +142,7 @@ by_fails _ d = (λ e. absurd cc, λ passed. absurd passed)
 -- ---- labels
 
 abbrev pub IsLongLabel : Place → List ℕ → Type 0
-IsLongLabel place name = (entries : Entries) × (entries_of place ≡ Some entries) × (entries.keys ≡ keys.Label) × (4096 < length name)
+IsLongLabel place name = (entries : Entries) × (entries_of place ≡ Some entries) × (entries.keys ≡ keys.Label) × (MAX_LABEL_BYTES < length name)
 
 pub label_fails : (place : Place) (name : List ℕ) → (key_fits place name ≡ false) ↔ IsLongLabel place name
 unfolding key_fits

@@ -6,7 +6,7 @@ use Rattle.conf_laws.proofs.Numbers.{natural_is_in}
 use Rattle.conf_laws.proofs.Readings.{byte_object, Says, some_same, mapped_says, same_natural, class_told, only_unsigned, only_static, optional_found, by_found}
 use Rattle.conf_laws.proofs.Sound.{IsMapOf, TypeSound, type_sound, HasRow, RowsSound, needed_sound, optional_sound, ObjectSound, ContentSound, object_sound, content_sound, held_at, first_entry, needed_object, IsWithin, AreWithin, is_within, object_within, optional_within, entry_within, all_within, flaws_in, names_of, IsOwn}
 use Rattle.conf_laws.proofs.Structures.{structure_says, extras_says}
-use Rattle.conf_laws.proofs.Words.{nat_tests, is_passed, rows_of, Presence, admits_class, Place, At, Level, class_of, Known, inside, behind, nothing, natural_in, is_position, form_of, place_of_properties, own_place, shape_of, is_identifier, is_byte, is_unsigned_integer, is_number, is_eight, at_most, entries_of, key_of, key_by, itself_of, leaf_of, level, whole_from, member_flaws, configuration_flaws, configuration_limits, Ascends, All-map, IsStreamType, IsEventType, IsConfig, IsPlainName, ClockType, Draft, KeepsStreamRules, KeepsRules, RecordHasBits, optional, as_natural, Data, boolean, object, Members, no_members, members_len, get_member, member, as_object, and_parts, same_Some, append-nil, option_map_or, alignment_of, alignment, number_type, magic_type, byte_type, feature_of, feature, byte_of, identifier, is_on, of_trace, of_stream, size, mapped, timestamp, header, context, event_header, integer, size_of, default_align, integer_align as align_of, natural, object_at as object_named, properties, said_behind, word, OnlyIf, IsPlainUnsigned, ContextFeatures, EventFeatures, HeaderFeatures, IntType, environment, level_of, event_type, event_types, clock_of, stream_type, stream_types, clock_types, draft_with, draft_of_type, draft_of_trace, draft_of_root, draft_of, IsConfigName, Config, EnvironmentEntry, EventType, StreamType}
+use Rattle.conf_laws.proofs.Words.{MAX_EVENT_TYPES, MAX_STREAM_TYPES, nat_tests, is_passed, rows_of, Presence, admits_class, Place, At, Level, class_of, Known, inside, behind, nothing, natural_in, is_position, form_of, place_of_properties, own_place, shape_of, is_identifier, is_byte, is_unsigned_integer, is_number, is_eight, at_most, entries_of, key_of, key_by, itself_of, leaf_of, level, whole_from, member_flaws, configuration_flaws, configuration_limits, Ascends, All-map, IsStreamType, IsEventType, IsConfig, IsPlainName, ClockType, Draft, KeepsStreamRules, KeepsRules, RecordHasBits, optional, as_natural, Data, boolean, object, Members, no_members, members_len, get_member, member, as_object, and_parts, same_Some, append-nil, option_map_or, alignment_of, alignment, number_type, magic_type, byte_type, feature_of, feature, byte_of, identifier, is_on, of_trace, of_stream, size, mapped, timestamp, header, context, event_header, integer, size_of, default_align, integer_align as align_of, natural, object_at as object_named, properties, said_behind, word, OnlyIf, IsPlainUnsigned, ContextFeatures, EventFeatures, HeaderFeatures, IntType, environment, level_of, event_type, event_types, clock_of, stream_type, stream_types, clock_types, draft_with, draft_of_type, draft_of_trace, draft_of_root, draft_of, IsConfigName, Config, EnvironmentEntry, EventType, StreamType}
 use Rattle.conf_laws.proofs.Words.places
 
 -- ---- unsigned integers
@@ -204,12 +204,12 @@ event_says k name ms named f =
     (said, rw (specific.1, payload.1) refl, (refl, λ h s bits. record { name = named; log_level = small; specific = specific.2 h; payload = payload.2 h; has_bits = bits }))
 
 abbrev pub AreGoodEvents : List EventType → Type 0
-AreGoodEvents es = AreAllowed (λ (e : EventType). e.name) IsGoodEvent 1024 es
+AreGoodEvents es = AreAllowed (λ (e : EventType). e.name) IsGoodEvent MAX_EVENT_TYPES es
 
 events_say : (k : Known) (ms : Members) → member_flaws k places.StreamType ms ≡ [] → Says (event_types k.levels ms) (λ es. AreWithin places.StreamType ms → AreGoodEvents es)
 unfolding event_types key_of key_by entries_of behind rows_of inside itself_of form_of place_of_properties is_position own_place
 events_say k ms f =
-    map_says (λ (e : EventType). e.name) IsGoodEvent (_, refl, refl, refl) (λ j d own. (refl, refl), λ j own. refl) (λ j d own. (refl, refl), λ j own. refl) 1024 event_type (λ n. refl) (λ d j. refl) (λ j name d own judged flaws. event_says j name own (config_name name judged) flaws)
+    map_says (λ (e : EventType). e.name) IsGoodEvent (_, refl, refl, refl) (λ j d own. (refl, refl), λ j own. refl) (λ j d own. (refl, refl), λ j own. refl) MAX_EVENT_TYPES event_type (λ n. refl) (λ d j. refl) (λ j name d own judged flaws. event_says j name own (config_name name judged) flaws)
     k places.StreamType (codes "event-record-types") (refl, refl) ms k.levels refl f
 
 -- ---- data stream types
@@ -253,12 +253,12 @@ stream_says k name ms named f =
     (said, rw (context.1, extras.1, header.1, common.1, events.1) refl, (refl, good))
 
 abbrev pub AreGoodStreams : List StreamType → Type 0
-AreGoodStreams ss = AreAllowed (λ (s : StreamType). s.name) IsGoodStream 64 ss
+AreGoodStreams ss = AreAllowed (λ (s : StreamType). s.name) IsGoodStream MAX_STREAM_TYPES ss
 
 streams_say : (k : Known) (ms : Members) → k.levels ≡ properties (codes "$log-level-aliases") ms → member_flaws k places.TraceType ms ≡ [] → Says (stream_types ms) (λ ss. AreWithin places.TraceType ms → AreGoodStreams ss)
 unfolding stream_types key_of key_by entries_of behind rows_of inside itself_of form_of place_of_properties is_position own_place
 streams_say k ms levels f =
-    map_says (λ (s : StreamType). s.name) IsGoodStream (_, refl, refl, refl) (λ j d own. (refl, refl), λ j own. refl) (λ j d own. (refl, refl), λ j own. refl) 64 stream_type (λ n. refl) (λ d j. refl) (λ j name d own judged flaws. stream_says j name own (config_name name judged) flaws)
+    map_says (λ (s : StreamType). s.name) IsGoodStream (_, refl, refl, refl) (λ j d own. (refl, refl), λ j own. refl) (λ j d own. (refl, refl), λ j own. refl) MAX_STREAM_TYPES stream_type (λ n. refl) (λ d j. refl) (λ j name d own judged flaws. stream_says j name own (config_name name judged) flaws)
     k places.TraceType (codes "data-stream-types") (refl, refl) ms (properties (codes "$log-level-aliases") ms) levels f
 
 -- ---- the trace

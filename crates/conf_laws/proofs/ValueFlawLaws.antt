@@ -48,7 +48,7 @@ not_both_ways a b e less = omega (arith, le-true a b e, lt_out b a less)
 whole_same : (d : Data) (x z : ℤ) → IsWhole d x → IsWhole d z → x ≡ z
 whole_same d x z (m, is, whole) (n, there, integer) = let same : m ≡ n = some_same (as_number d) m n is there in some_same (as_integer n) x z (ap as_integer (sym same) ∙ whole) integer
 
-whole_excluded : (low high : ℤ) (d : Data) (z : ℤ) (flaw : Flaw) → IsWhole d z → (int_le low z ≡ true) × (int_le z high ≡ true) → ¬ IsNoWhole low high d flaw
+pub whole_excluded : (low high : ℤ) (d : Data) (z : ℤ) (flaw : Flaw) → IsWhole d z → (int_le low z ≡ true) × (int_le z high ≡ true) → ¬ IsNoWhole low high d flaw
 whole_excluded low high d z flaw whole within wrong = grind (arith, not_both_ways, whole, within, wrong)
 
 whole_judged : (low high : ℤ) (d : Data) → IsJudged (whole_from low high d) (IsNoWhole low high d)
@@ -169,10 +169,10 @@ level_judged levels high d = grind (arith, whole_judged (pos 0) high, IsNoLevel.
 
 -- ---- ranges
 
-list_no_number : (d : Data) (ds : Items) (z : ℤ) → as_array d ≡ Some ds → ¬ IsWhole d z
+pub list_no_number : (d : Data) (ds : Items) (z : ℤ) → as_array d ≡ Some ds → ¬ IsWhole d z
 list_no_number d ds z is whole = grind (arith, is, whole)
 
-firsts : (d a b c e : Data) → IsPair d a b → IsPair d c e → (a ≡ c) × (b ≡ e)
+pub firsts : (d a b c e : Data) → IsPair d a b → IsPair d c e → (a ≡ c) × (b ≡ e)
 firsts d a b c e p q = let same = some_same (as_array d) (item a (item b no_items)) (item c (item e no_items)) p q in (cc, cc)
 
 range_same : (d : Data) (x y low high : ℤ) → IsRange d x y → IsRange d low high → (x ≡ low) × (y ≡ high)
@@ -285,11 +285,11 @@ module _ (k : Known) (around : Around) (h : Agrees k around) where
 
 -- ---- the names of entries
 
-name_excluded : (name : List ℕ) (flaw : Flaw) → name_of name ≡ Ok tt → ¬ IsNoName name flaw
+pub name_excluded : (name : List ℕ) (flaw : Flaw) → name_of name ≡ Ok tt → ¬ IsNoName name flaw
 unfolding name_of
 name_excluded name flaw e wrong = grind (arith, nat_tests, e, wrong)
 
-plain_judged : (name : List ℕ) → IsJudged (plain_name_of name) (IsNoPlainName name)
+pub plain_judged : (name : List ℕ) → IsJudged (plain_name_of name) (IsNoPlainName name)
 unfolding plain_name_of is_reserved
 plain_judged name =
     both_judged (IsNoPlainName name) (plain_name_of name) (plain_name_refused name) (λ x went flaw wrong. elim wrong as (λ f w. ⊥) [
@@ -311,7 +311,7 @@ module _ (k : Known) (around : Around) (h : (name : List ℕ) → IsTrue (is_tak
         | IsNoMemberName.length_clash dynamic taken ↦ false≢true (sym p.1 ∙ and_from (is_dynamic d) (is_taken k.taken (length_name name)) (told_dynamic d dynamic) ((h (length_name name)).1 taken))
       ])
 
-  key_judged : (place : Place) (by : Keys) (name : List ℕ) (d : Data) → IsJudged (key_by k place by name d) (IsNoKey around place by name d)
+  pub key_judged : (place : Place) (by : Keys) (name : List ℕ) (d : Data) → IsJudged (key_by k place by name d) (IsNoKey around place by name d)
   unfolding key_by
   key_judged place keys.Name name d = both_judged (IsNoName name) (name_of name) (name_refused name) (λ x went flaw. name_excluded name flaw went)
   key_judged places.Entry keys.PlainName name d =

@@ -1,7 +1,8 @@
 -- Which of two ways of a walk is before the other; and that a list has the first of the flaws that stand at some ways, where it is made of
 -- parts that have the first of theirs.
 use Rattle.std.proofs.Common.{◌≡◌, ◌⊎◌, ◌≤◌, ℕ, suc, List, [], ◌∷◌, ◌++◌, map, Result, Ok, Err, inl, inr, refl, sym, ap, subst, ◌∙◌, arith}
-use Rattle.conf_laws.specs.WalkOrder.{Turn, what_it_holds, rank, NameBefore, OneBefore, WayBefore}
+use Rattle.conf_laws.specs.FlawOrder.{NameBefore, BeforeAtTurn}
+use Rattle.conf_laws.specs.WalkOrder.{Turn, what_it_holds, rank, OneBefore, WayBefore}
 use Rattle.conf_laws.proofs.ValueFlawLaws.{IsJudged}
 use Rattle.conf_laws.proofs.Words.{AllAbove, Flaw, PathPart, within, ◌>>=◌, HasMember, told_by, Data, Members, no_members, member, ⊤}
 
@@ -46,39 +47,61 @@ above k l d (member m e ms) h (inr has) = above k l d ms h.1 has
 
 -- ---- the first of several flaws
 
--- the first of the list stands, at these ways, before all others but those at its own way; the list is empty where none stands there
+-- at one turn a flaw is the same as another, or before it
+abbrev pub IsSameOrBefore : Flaw → Flaw → Type 0
+IsSameOrBefore f g = (f ≡ g) ⊎ BeforeAtTurn f g
+
+-- what a reading refuses is the first of these
+abbrev pub TellsFirst : Result ⊤ Flaw → (Flaw → Type 0) → Type 0
+TellsFirst r P = (flaw : Flaw) → r ≡ Err flaw → (other : Flaw) → P other → IsSameOrBefore flaw other
+
+-- there is one of these at most
+abbrev pub IsAlone : (Flaw → Type 0) → Type 0
+IsAlone P = (f g : Flaw) → P f → P g → f ≡ g
+
+pub alone_first : (P : Flaw → Type 0) (r : Result ⊤ Flaw) → IsJudged r P → IsAlone P → TellsFirst r P
+alone_first P (Ok x) h alone = λ flaw e other wrong. absurd cc
+alone_first P (Err told) h alone = λ flaw e other wrong. let same : told ≡ flaw = cc in inl (sym same ∙ alone told other h wrong)
+
+-- the first of the list stands, at these ways, before all others, and before the others at its own way; the list is empty where none
+-- stands there
 abbrev pub Leads : List Flaw → (List Turn → Flaw → Type 0) → Type 0
 Leads [] P = (q : List Turn) (f : Flaw) → ¬ P q f
-Leads (g ∷ rest) P = (p : List Turn) × P p g × ((q : List Turn) (f : Flaw) → P q f → (p ≡ q) ⊎ WayBefore p q)
+Leads (g ∷ rest) P = (p : List Turn) × P p g × ((q : List Turn) (f : Flaw) → P q f → WayBefore p q ⊎ ((p ≡ q) × IsSameOrBefore g f))
 
 -- of a reading at one turn
-pub leads_judged : (t : Turn) (P : Flaw → Type 0) (r : Result ⊤ Flaw) → IsJudged r P → Leads (told_by r) (λ q f. (q ≡ t ∷ []) × P f)
-leads_judged t P (Ok x) h = λ q f wrong. h f wrong.1
-leads_judged t P (Err flaw) h = (t ∷ [], (refl, h), λ q f wrong. inl (sym wrong.0))
+pub leads_judged : (t : Turn) (P : Flaw → Type 0) (r : Result ⊤ Flaw) → IsJudged r P → TellsFirst r P → Leads (told_by r) (λ q f. (q ≡ t ∷ []) × P f)
+leads_judged t P (Ok x) h first = λ q f wrong. h f wrong.1
+leads_judged t P (Err flaw) h first = (t ∷ [], (refl, h), λ q f wrong. inr (sym wrong.0, first flaw refl f wrong.1))
 
 -- of two parts, of which the one is before the other
 pub leads_joined : (A B : List Turn → Flaw → Type 0) (xs ys : List Flaw) → Leads xs A → Leads ys B → ((p q : List Turn) (f g : Flaw) → A p f → B q g → WayBefore p q) → Leads (xs ++ ys) (λ q f. A q f ⊎ B q f)
 leads_joined A B [] [] h k before = λ q f wrong. elim wrong [ inl a ↦ h q f a | inr b ↦ k q f b ]
 leads_joined A B [] (y ∷ ys) h k before = (k.0, inr k.1, λ q f wrong. elim wrong [ inl a ↦ absurd (h q f a) | inr b ↦ k.2 q f b ])
-leads_joined A B (x ∷ xs) ys h k before = (h.0, inl h.1, λ q f wrong. elim wrong [ inl a ↦ h.2 q f a | inr b ↦ inr (before h.0 q x f h.1 b) ])
+leads_joined A B (x ∷ xs) ys h k before = (h.0, inl h.1, λ q f wrong. elim wrong [ inl a ↦ h.2 q f a | inr b ↦ inl (before h.0 q x f h.1 b) ])
 
 -- of two readings, the second only where the first goes well
 pub leads_then : (A B : List Turn → Flaw → Type 0) (r second : Result ⊤ Flaw) → Leads (told_by r) A → Leads (told_by second) B → ((p q : List Turn) (f g : Flaw) → A p f → B q g → WayBefore p q) → Leads (told_by (r >>= (λ _. second))) (λ q f. A q f ⊎ B q f)
 leads_then A B (Ok x) second h k before = leads_joined A B [] (told_by second) h k before
-leads_then A B (Err g) second h k before = (h.0, inl h.1, λ q f wrong. elim wrong [ inl a ↦ h.2 q f a | inr b ↦ inr (before h.0 q g f h.1 b) ])
+leads_then A B (Err g) second h k before = (h.0, inl h.1, λ q f wrong. elim wrong [ inl a ↦ h.2 q f a | inr b ↦ inl (before h.0 q g f h.1 b) ])
 
 -- what stands at a way within a part
 abbrev pub Within : PathPart → (List Turn → Flaw → Type 0) → List Turn → Flaw → Type 0
 Within part A q f = (p : List Turn) × (g : Flaw) × (q ≡ what_it_holds part ∷ p) × (f ≡ within part g) × A p g
 
+same_or_before_within : (part : PathPart) (f g : Flaw) → IsSameOrBefore f g → IsSameOrBefore (within part f) (within part g)
+same_or_before_within part f g (inl same) = inl (ap (within part) same)
+same_or_before_within part f g (inr (inl inner)) = inr (inl (inr (refl, inner)))
+same_or_before_within part f g (inr (inr (path, kind))) = inr (inr (ap (λ x. part ∷ x) path, kind))
+
 pub leads_within : (part : PathPart) (A : List Turn → Flaw → Type 0) (xs : List Flaw) → Leads xs A → Leads (map (within part) xs) (Within part A)
 leads_within part A [] h = λ q f wrong. h wrong.0 wrong.1 wrong.4
 leads_within part A (x ∷ xs) h = (what_it_holds part ∷ h.0, (h.0, x, refl, refl, h.1), after)
   where
-    after : (q : List Turn) (f : Flaw) → Within part A q f → (what_it_holds part ∷ h.0 ≡ q) ⊎ WayBefore (what_it_holds part ∷ h.0) q
+    after : (q : List Turn) (f : Flaw) → Within part A q f → WayBefore (what_it_holds part ∷ h.0) q ⊎ ((what_it_holds part ∷ h.0 ≡ q) × IsSameOrBefore (within part x) f)
     after q f (p, g, is, seen, wrong) = elim (h.2 p g wrong) [
-      | inl same ↦ inl (ap (λ w. what_it_holds part ∷ w) same ∙ sym is)
-      | inr less ↦ inr (subst (WayBefore (what_it_holds part ∷ h.0)) (sym is) (inr (refl, less)))
+      | inl less ↦ inl (subst (WayBefore (what_it_holds part ∷ h.0)) (sym is) (inr (refl, less)))
+      | inr (same, first) ↦ inr (ap (λ w. what_it_holds part ∷ w) same ∙ sym is, subst (IsSameOrBefore (within part x)) (sym seen) (same_or_before_within part x g first))
     ]
 
 -- of those of a value where something holds

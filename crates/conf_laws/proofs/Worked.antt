@@ -3,7 +3,7 @@
 use Rattle.std.proofs.Common.{◌≡◌, List, [], ◌∷◌, true, Some, None, inl, inr, refl, arith, ◌<◌, ℕ, length, IsSome, subst, codes}
 use Rattle.conf_laws.proofs.Traces.{draft_allowed}
 use Rattle.conf_laws.proofs.Readings.{some_none}
-use Rattle.conf_laws.proofs.Words.{Parts, KeepsStreamRules, KeepsRules, IsNoClassAt, HasNotItsRows, IsFlawOf, PassesLimitOf, IsNoDefault, IsNoMemberName, class_words, admits_class, is_class, rows_of, entries_of, content_under, presence_under, words_of, At, OneFlag, class_of, class_rule, orders_there, all_there, resolved_content, is_left_out, configuration_flaws, other_class, any_object, form_of, itself_of, inside, behind, leaf_of, whole_from, fits, place_fits, arrays_fit, is_outermost, ranges_fit, key_fits, configuration_limits, power_fits, key_of, key_by, free_of, names_beside, is_dynamic, natural_in, is_position, own_place, place_of_properties, item_content, shape_of, Flaw, PathPart as Place, key, index, here, Ascends, whole_of, WrongKind, Missing, Unknown, OutOfRange, NameClash, Limit, FaultKind, IsNoObject, name_of, is_reserved, plain_name_of, as_natural, Data, null, boolean, number, unsigned, string, array, object, no_items, item, Members, no_members, member, All-nil, same_Some, alignment, clock_types, environment, event_type, event_types, feature, identifier, size, mapped, timestamp, header, context, event_header, base_of, size_of, integer, natural, word, list, object_at, properties, member_type, behind_done as behind_member, stream_type, stream_types, asks_number, draft_of_type, draft_of_trace, draft_of_root, draft_of, Draft, IsConfig, is_name as is_identifier, integer_made, integer_align, structure, structure_of, listed, extra_members, made, align_of, of_class}
+use Rattle.conf_laws.proofs.Words.{MAX_TEXT_BYTES, Parts, KeepsStreamRules, KeepsRules, IsNoClassAt, HasNotItsRows, IsFlawOf, PassesLimitOf, IsNoDefault, IsNoMemberName, class_words, admits_class, is_class, rows_of, entries_of, content_under, presence_under, words_of, At, OneFlag, class_of, class_rule, orders_there, all_there, resolved_content, is_left_out, configuration_flaws, other_class, any_object, form_of, itself_of, inside, behind, leaf_of, whole_from, fits, place_fits, arrays_fit, is_outermost, ranges_fit, key_fits, configuration_limits, power_fits, key_of, key_by, free_of, names_beside, is_dynamic, natural_in, is_position, own_place, place_of_properties, item_content, shape_of, Flaw, PathPart as Place, key, index, here, Ascends, whole_of, WrongKind, Missing, Unknown, OutOfRange, NameClash, Limit, FaultKind, IsNoObject, name_of, is_reserved, plain_name_of, as_natural, Data, null, boolean, number, unsigned, string, array, object, no_items, item, Members, no_members, member, All-nil, same_Some, alignment, clock_types, environment, event_type, event_types, feature, identifier, size, mapped, timestamp, header, context, event_header, base_of, size_of, integer, natural, word, list, object_at, properties, member_type, behind_done as behind_member, stream_type, stream_types, asks_number, draft_of_type, draft_of_trace, draft_of_root, draft_of, Draft, IsConfig, is_name as is_identifier, integer_made, integer_align, structure, structure_of, listed, extra_members, made, align_of, of_class}
 use Rattle.conf_laws.proofs.Words.places
 
 abbrev flaw_at : List Place → FaultKind → Flaw
@@ -47,7 +47,7 @@ unfolding is_position class_of class_words admits_class
 no_payload = IsFlawOf.wrong_class (IsNoClassAt.another_class places.Str refl (λ same. cc) refl refl)
 
 -- a description of a clock type that is too long: a limit, at `description`
-long_description : (text : List ℕ) → 4096 < length text → PassesLimitOf (At places.ClockType) (object (member (codes "description") (string text) no_members)) (flaw_at (key (codes "description") ∷ []) Limit)
+long_description : (text : List ℕ) → MAX_TEXT_BYTES < length text → PassesLimitOf (At places.ClockType) (object (member (codes "description") (string text) no_members)) (flaw_at (key (codes "description") ∷ []) Limit)
 unfolding place_of_properties own_place is_position content_under entries_of rows_of
 long_description text long = PassesLimitOf.in_property (codes "description") (string text) _ (here Limit) (inl (refl, refl)) refl (PassesLimitOf.too_large (text, refl, long))
 

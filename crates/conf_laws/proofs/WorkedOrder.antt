@@ -1,8 +1,10 @@
--- Which of two flaws of a small configuration stands before the other.
+-- Which of two flaws of a small configuration stands before the other, and which of two of one turn, or of the whole.
 use Rattle.std.proofs.Common.{List, [], ◌∷◌, None, inl, inr, refl, arith, codes}
+use Rattle.conf_laws.specs.FlawOrder.{BeforeAtTurn, BeforeInWhole}
 use Rattle.conf_laws.specs.WalkOrder.{StandsBefore}
+use Rattle.conf_tree.specs.declared.fault_kind.FaultKind.TheVariants.{WrongKind, OutOfRange, ReservedName, NameClash, NoClock, NoUuid}
 use Rattle.conf_laws.proofs.Readings.{some_none}
-use Rattle.conf_laws.proofs.Words.{HasNotItsRows, IsFlawOf, Needed, rows_of, entries_of, content_under, presence_under, At, is_position, own_place, place_of_properties, Flaw, PathPart as Place, key, Missing, Unknown, FaultKind, null, object, Members, no_members, member}
+use Rattle.conf_laws.proofs.Words.{HasNotItsRows, IsFlawOf, Needed, rows_of, entries_of, content_under, presence_under, At, is_position, own_place, place_of_properties, Flaw, PathPart as Place, key, index, Missing, Unknown, FaultKind, null, object, Members, no_members, member}
 use Rattle.conf_laws.proofs.Words.places
 
 abbrev flaw_at : List Place → FaultKind → Flaw
@@ -33,3 +35,22 @@ missing_first = inl (inl (omega arith))
 lower_first : StandsBefore an_option another
 unfolding an_option another
 lower_first = inl (inr refl)
+
+-- of a range whose ends are both wrong the first end comes first, and an end before the range
+first_end_first : BeforeAtTurn (flaw_at (index 0 ∷ []) WrongKind) (flaw_at (index 1 ∷ []) WrongKind)
+first_end_first = inl (inl (omega arith))
+
+end_before_range : BeforeAtTurn (flaw_at (index 1 ∷ []) OutOfRange) (flaw_at [] OutOfRange)
+end_before_range = inl tt
+
+-- that a name is a reserved word comes before that it is taken
+reserved_before_taken : BeforeAtTurn (flaw_at [] ReservedName) (flaw_at [] NameClash)
+reserved_before_taken = inr (refl, (10, 11, omega arith, refl, refl))
+
+-- a missing clock comes before a missing identifier, although its place is the later one
+clock_before_identifier : BeforeInWhole (flaw_at (key (codes "trace") ∷ key (codes "type") ∷ key (codes "data-stream-types") ∷ []) NoClock) (flaw_at (key (codes "trace") ∷ key (codes "type") ∷ key (codes "$features") ∷ []) NoUuid)
+clock_before_identifier = inl (14, 15, omega arith, refl, refl)
+
+-- of two missing clocks the one at the lower name
+lower_clock_first : BeforeInWhole (flaw_at (key (codes "a") ∷ []) NoClock) (flaw_at (key (codes "b") ∷ []) NoClock)
+lower_clock_first = inr (refl, inl refl)

@@ -3,4 +3,5 @@ pub mod Around
 pub mod ValueFlaws
 pub mod TableFlaws
 pub mod TableLimits
+pub mod FlawOrder
 pub mod WalkOrder

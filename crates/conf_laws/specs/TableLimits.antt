@@ -3,6 +3,8 @@
 use Rattle.std.specs.Prelude.{◌≡◌, ◌≢◌, ◌<◌, ◌*◌, ℕ, true, List, [], ◌∷◌, length, Some, codes}
 use Rattle.serde_json.specs.Data.{Data, array, object, Items, Members}
 use Rattle.serde_json.specs.Find.{get_member, get_item, as_str}
+use Rattle.ctf_types.specs.declared.limits.TheConstants.{MAX_ARRAYS, MAX_CONFIG_RANGES, MAX_ELEMENTS}
+use Rattle.conf_tree.specs.declared.limits.TheConstants.{MAX_LABEL_BYTES}
 use Rattle.conf_tree.specs.declared.fault_kind.FaultKind.TheVariants.{Limit}
 use Rattle.conf_tree.specs.Flaw.{Flaw, key, index, here, within}
 use Rattle.conf_tree.specs.Walk.{HasMember}
@@ -38,17 +40,17 @@ abbrev pub product : List ℕ → ℕ
 product [] = 1
 product (n ∷ ns) = n * product ns
 
--- more than 8 static arrays in one another, or more than 2^20 elements in all
+-- more static arrays in one another than may nest, or more elements in all than may be
 pub data HasTooManyElements (d : Data) : Type 0 where
-  too_deep : (ns : List ℕ) → Nest d ns → 8 < length ns → HasTooManyElements d
-  too_many : (ms : Members) (element : Data) (ns : List ℕ) → d ≡ object ms → HasElement ms element → Nest d ns → 1048576 < product ns → HasTooManyElements d
+  too_deep : (ns : List ℕ) → Nest d ns → MAX_ARRAYS < length ns → HasTooManyElements d
+  too_many : (ms : Members) (element : Data) (ns : List ℕ) → d ≡ object ms → HasElement ms element → Nest d ns → MAX_ELEMENTS < product ns → HasTooManyElements d
 
 -- ---- a value by itself
 
 -- more entries than a map or a list may have, more ranges than all labels may have, or too many elements of a field type
 pub data PassesAt (place : Place) (d : Data) : Type 0 where
   too_many_entries : (entries : Entries) (most : ℕ) → entries_of place ≡ Some entries → entries.most ≡ Some most → most < count_of d → PassesAt place d
-  too_many_ranges : place ≡ places.Mappings → 1024 < ranges_of d → PassesAt place d
+  too_many_ranges : place ≡ places.Mappings → MAX_CONFIG_RANGES < ranges_of d → PassesAt place d
   too_many_elements : is_outermost place ≡ true → HasTooManyElements d → PassesAt place d
 
 -- a text of more bytes than this
@@ -71,7 +73,7 @@ PassesBy _ d = ⊥
 -- a limit that is passed by the value, or by what it holds, seen from the value
 pub data PassesLimitOf : Content → Data → Flaw → Type 0 where
   too_large : {content : Content} {d : Data} → PassesBy content d → PassesLimitOf content d (here Limit)
-  long_label : {place : Place} {ms : Members} (label : List ℕ) (d : Data) (entries : Entries) → HasMember label d ms → entries_of (place_of_properties place ms) ≡ Some entries → entries.keys ≡ Label → 4096 < length label
+  long_label : {place : Place} {ms : Members} (label : List ℕ) (d : Data) (entries : Entries) → HasMember label d ms → entries_of (place_of_properties place ms) ≡ Some entries → entries.keys ≡ Label → MAX_LABEL_BYTES < length label
       → PassesLimitOf (contents.At place) (object ms) (within (key label) (here Limit))
   in_property : {place : Place} {ms : Members} (name : List ℕ) (d : Data) (content : Content) (flaw : Flaw) → HasMember name d ms → content_under (place_of_properties place ms) name ≡ Some content
       → PassesLimitOf content d flaw → PassesLimitOf (contents.At place) (object ms) (within (key name) flaw)

@@ -1,16 +1,14 @@
 -- The order of a walk over a resolved configuration, and which of two flaws, or of two limits, stands before the other in it. At one value
 -- its label comes first, then what it is by itself, its name and its class, the properties that it lacks, what it holds, and last its
--- shape as a whole. Properties are in byte order of their names, and the items of a list by index.
+-- shape as a whole. What a value has of flaws at one turn is ordered by place and kind.
 use Rattle.std.specs.Prelude.{◌≡◌, ◌⊎◌, ◌<◌, ℕ, List, [], ◌∷◌, codes}
-use Rattle.std.specs.Ordering.{nat_cmp}
-use Rattle.std.specs.declared.cmp.Ordering.TheVariants.{Less}
-use Rattle.std.specs.Cmp.Lexicographic.{slice_cmp}
 use Rattle.serde_json.specs.Data.{Data}
 use Rattle.conf_tree.specs.Flaw.{Flaw, Place as PathPart, key, index}
 use Rattle.conf_table.specs.declared.place.Place.TheVariants.{Root}
 use Rattle.conf_table.specs.declared.row.Content.{Content}
 use Rattle.conf_table.specs.declared.row.Content.TheVariants.{At}
 use Rattle.conf_laws.specs.Around.{Around}
+use Rattle.conf_laws.specs.FlawOrder.{NameBefore, PartBefore, BeforeAtTurn}
 use Rattle.conf_laws.specs.TableFlaws.{IsFlawOf, HasNotItsRows}
 use Rattle.conf_laws.specs.TableLimits.{PassesLimitOf}
 
@@ -35,16 +33,6 @@ rank its_class = 3
 rank (what_it_lacks name) = 4
 rank (what_it_holds part) = 5
 rank its_shape = 6
-
--- in byte order
-abbrev pub NameBefore : List ℕ → List ℕ → Type 0
-NameBefore k l = slice_cmp nat_cmp k l ≡ Less
-
--- properties by name, and items by index
-abbrev pub PartBefore : PathPart → PathPart → Type 0
-PartBefore (key k) (key l) = NameBefore k l
-PartBefore (index i) (index j) = i < j
-PartBefore _ _ = ⊥
 
 -- of two properties that a value lacks, or of two parts that it holds
 abbrev pub OneBefore : Turn → Turn → Type 0
@@ -78,10 +66,12 @@ way_to (IsFlawOf.in_item i d flaw is wrong) = what_it_holds (index i) ∷ way_to
 abbrev pub StandsBefore : {around : Around} {content : Content} {d : Data} {one other : Flaw} → IsFlawOf around content d one → IsFlawOf around content d other → Type 0
 StandsBefore one other = WayBefore (way_to one) (way_to other)
 
--- a flaw of a whole configuration by the table, which stands before each other flaw that it has, but where both are at one turn: the two
--- ends of a range are, and a name that is no identifier and is taken
+-- a flaw of a whole configuration by the table, and before each other flaw that it has: in the order of the walk or, where both are at one
+-- turn of it, by place and kind
 abbrev pub IsFirstOf : Data → Flaw → Type 0
-IsFirstOf d flaw = (first : IsFlawOf [] (At Root) d flaw) × ((other : Flaw) (wrong : IsFlawOf [] (At Root) d other) → (way_to first ≡ way_to wrong) ⊎ StandsBefore first wrong)
+IsFirstOf d flaw =
+    (first : IsFlawOf [] (At Root) d flaw)
+    × ((other : Flaw) (wrong : IsFlawOf [] (At Root) d other) → StandsBefore first wrong ⊎ ((way_to first ≡ way_to wrong) × ((flaw ≡ other) ⊎ BeforeAtTurn flaw other)))
 
 -- ---- limits
 

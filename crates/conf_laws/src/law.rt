@@ -16,6 +16,7 @@ ghost use Rattle.conf_draft.specs.Structures.{align_of as align_of_structure};
 ghost use Rattle.conf_draft.specs.Traces.{draft_of};
 ghost use Rattle.conf_draft.specs.declared.draft.Draft.{Draft};
 ghost use Rattle.ctf_types.specs.AllowedConfig.{IsConfig};
+ghost use Rattle.ctf_types.specs.declared.limits.TheConstants.{LARGEST_ALIGN};
 ghost use Rattle.conf_laws.specs.Rules.{KeepsRules};
 ghost use Rattle.conf_laws.specs.TableFlaws.{IsFlawOf};
 ghost use Rattle.conf_laws.specs.TableLimits.{PassesLimitOf};
@@ -30,8 +31,8 @@ pub fn sound_trees_say_something()
 /// A power of two that passes no limit is read as the very alignment that it is, of an integer and of a structure.
 #[tactic(auto, using(crate::proofs::Numbers::integer_kept, crate::proofs::Numbers::structure_kept))]
 pub fn alignments_are_kept()
-    ensures integers { (ms : Members) (n : ℕ) → natural (codes "alignment") ms ≡ Some n → is_power_of_two (pos n) ≡ true → divides 4096 (Some n) ≡ true → align_of_integer ms ≡ n }
-    ensures structures { (ms : Members) (n : ℕ) → natural (codes "minimum-alignment") ms ≡ Some n → is_power_of_two (pos n) ≡ true → divides 4096 (Some n) ≡ true → align_of_structure ms ≡ n }
+    ensures integers { (ms : Members) (n : ℕ) → natural (codes "alignment") ms ≡ Some n → is_power_of_two (pos n) ≡ true → divides LARGEST_ALIGN (Some n) ≡ true → align_of_integer ms ≡ n }
+    ensures structures { (ms : Members) (n : ℕ) → natural (codes "minimum-alignment") ms ≡ Some n → is_power_of_two (pos n) ≡ true → divides LARGEST_ALIGN (Some n) ≡ true → align_of_structure ms ≡ n }
 {}
 
 /// What has no flaw, passes no limit and keeps the rules over the whole says a configuration that the rules allow.
@@ -64,7 +65,7 @@ pub fn no_limit_is_passed()
 {}
 
 /// The flaw that a walk over the objects answers is one by the table, and stands before each other one in the order of the walk,
-/// where the names of each object are in byte order. Two flaws at one turn of the walk are in no order.
+/// and of those at its own turn by place and kind, where the names of each object are in byte order.
 #[tactic(auto, using(crate::proofs::FirstFlawLaws::first_found))]
 pub fn first_flaw_is_first()
     ensures { (d : Data) (flaw : Flaw) → Ascends d → refusal (configuration_flaws d) ≡ Err flaw → IsFirstOf d flaw }

@@ -4,7 +4,6 @@
 mod classes;
 mod field_types;
 mod laws;
-mod limits;
 mod maps;
 mod objects;
 mod place;
@@ -14,7 +13,6 @@ mod words;
 
 pub use classes::{class_of, class_place, class_words};
 pub use laws::{known_by_rows, one_row_a_name};
-pub use limits::{MAX_RANGES, MAX_TEXT_BYTES};
 pub use place::Place;
 pub use row::{Content, Entries, Keys, Presence, Row};
 pub use table::{content, content_at, entries, entries_at, has_property, presence, rows, under};

@@ -1,8 +1,11 @@
 //! What the maps and the lists of a configuration hold.
 
 use crate::objects::{HIGHEST, HIGHEST_UNSIGNED, LOWEST};
-use crate::{Content, Entries, Keys, MAX_TEXT_BYTES, Place};
-use ctf_types::MAX_ENVIRONMENT;
+use crate::{Content, Entries, Keys, Place};
+use conf_tree::{MAX_ALIASES, MAX_TEXT_BYTES};
+use ctf_types::{
+    MAX_CLOCK_TYPES, MAX_CONFIG_MEMBERS, MAX_ENVIRONMENT, MAX_EVENT_TYPES, MAX_STREAM_TYPES,
+};
 
 pub(crate) static ENVIRONMENT: Entries = Entries {
     keys: Keys::PlainName,
@@ -16,13 +19,13 @@ pub(crate) static ENVIRONMENT: Entries = Entries {
 
 pub(crate) static FIELD_TYPE_ALIASES: Entries = Entries {
     keys: Keys::Name,
-    most: Some(1024),
+    most: Some(MAX_ALIASES as u64),
     content: Content::At(Place::FieldType),
 };
 
 pub(crate) static LOG_LEVEL_ALIASES: Entries = Entries {
     keys: Keys::Name,
-    most: Some(1024),
+    most: Some(MAX_ALIASES as u64),
     content: Content::Whole {
         low: 0,
         high: HIGHEST,
@@ -31,19 +34,19 @@ pub(crate) static LOG_LEVEL_ALIASES: Entries = Entries {
 
 pub(crate) static CLOCK_TYPES: Entries = Entries {
     keys: Keys::PlainName,
-    most: Some(64),
+    most: Some(MAX_CLOCK_TYPES as u64),
     content: Content::At(Place::ClockType),
 };
 
 pub(crate) static STREAM_TYPES: Entries = Entries {
     keys: Keys::Name,
-    most: Some(64),
+    most: Some(MAX_STREAM_TYPES as u64),
     content: Content::At(Place::StreamType),
 };
 
 pub(crate) static EVENT_TYPES: Entries = Entries {
     keys: Keys::Name,
-    most: Some(1024),
+    most: Some(MAX_EVENT_TYPES as u64),
     content: Content::At(Place::EventType),
 };
 
@@ -61,13 +64,13 @@ pub(crate) static MAPPINGS: Entries = Entries {
 
 pub(crate) static EXTRA_MEMBERS: Entries = Entries {
     keys: Keys::Index,
-    most: Some(256),
+    most: Some(MAX_CONFIG_MEMBERS as u64),
     content: Content::At(Place::Entry),
 };
 
 pub(crate) static MEMBERS: Entries = Entries {
     keys: Keys::Index,
-    most: Some(256),
+    most: Some(MAX_CONFIG_MEMBERS as u64),
     content: Content::At(Place::Entry),
 };
 

@@ -5,7 +5,8 @@ use crate::Content::{
 };
 use crate::Place::*;
 use crate::Presence::{self, Needed, Number, OneOrder, Optional, WithClock, WithIdentifier};
-use crate::{MAX_TEXT_BYTES, Row, Words};
+use crate::{Row, Words};
+use conf_tree::MAX_TEXT_BYTES;
 
 /// The lowest and the highest number of 64 bits, one of which is the sign.
 pub(crate) const LOWEST: i128 = -9223372036854775808;

@@ -10,8 +10,9 @@ use Rattle.serde_json.specs.Find.{is_float, get_item}
 use Rattle.serde_json.specs.Written.{has_float, items_have_float, members_have_float}
 use Rattle.serde_json.specs.Read.{read}
 use Rattle.conf_tree.specs.declared.fault.ConfFault.{ConfFault}
+use Rattle.conf_tree.specs.declared.limits.TheConstants.{MAX_LEVELS}
 use Rattle.conf_tree.specs.Flaw.{Flaw, key, index, here, within, flaw_of, IsMemory}
-use Rattle.conf_tree.specs.Walk.{flaws, item_flaws, member_flaws, refusal, max_levels, Reads, KindHolds, FlawHolds, HasMember}
+use Rattle.conf_tree.specs.Walk.{flaws, item_flaws, member_flaws, refusal, Reads, KindHolds, FlawHolds, HasMember}
 
 -- ---- no flaw: not too deep, and no float
 
@@ -122,8 +123,8 @@ accepted [] e = refl
 accepted (f ∷ fs) e = cc
 
 -- whatever value the text is, the fault that refused the one that was read holds in it
-pub read_holds : (text : List ℕ) (v : Data) (fault : ConfFault) → read text ≡ Some v → IsMemory fault ⊎ (refusal (flaws v max_levels) ≡ Err (flaw_of fault))
-    → IsMemory fault ⊎ ((d : Data) → Reads text d → FlawHolds d max_levels (flaw_of fault))
+pub read_holds : (text : List ℕ) (v : Data) (fault : ConfFault) → read text ≡ Some v → IsMemory fault ⊎ (refusal (flaws v MAX_LEVELS) ≡ Err (flaw_of fault))
+    → IsMemory fault ⊎ ((d : Data) → Reads text d → FlawHolds d MAX_LEVELS (flaw_of fault))
 read_holds text v fault is (inl memory) = inl memory
 read_holds text v fault is (inr refused) =
-    inr (λ d reads. let same : v ≡ d = cc in subst (λ x. FlawHolds x max_levels (flaw_of fault)) same (first_holds (FlawHolds v max_levels) (flaws v max_levels) (flaw_of fault) (flaws-hold v max_levels) refused))
+    inr (λ d reads. let same : v ≡ d = cc in subst (λ x. FlawHolds x MAX_LEVELS (flaw_of fault)) same (first_holds (FlawHolds v MAX_LEVELS) (flaws v MAX_LEVELS) (flaw_of fault) (flaws-hold v MAX_LEVELS) refused))

@@ -1,2 +1,3 @@
 mod Flaws
 mod Rows
+mod WorkedLimits

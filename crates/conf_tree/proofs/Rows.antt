@@ -3,12 +3,13 @@ use Rattle.std.proofs.Common.{◌≡◌, [], ◌∷◌, None, Ok, Err, pos, refl
 use Rattle.std.specs.Prelude.{codes, Float}
 use Rattle.serde_json.specs.Data.{null, number, array, object, unsigned, float, no_items, item, no_members, member}
 use Rattle.conf_tree.specs.declared.fault_kind.FaultKind.TheVariants.{TooDeep, NotWhole, Missing, OutOfRange, WrongKind}
+use Rattle.conf_tree.specs.declared.limits.TheConstants.{MAX_LEVELS}
 use Rattle.conf_tree.specs.Flaw.{key, index}
 use Rattle.conf_tree.specs.Reading.{◌>>=◌, needed, optional, whole_of}
-use Rattle.conf_tree.specs.Walk.{flaws, max_levels}
+use Rattle.conf_tree.specs.Walk.{flaws}
 
 -- `{"trace": 1e3}`
-a_float : (x : Float) → flaws (object (member (codes "trace") (number (float x)) no_members)) max_levels ≡ record { path = key (codes "trace") ∷ []; kind = NotWhole } ∷ []
+a_float : (x : Float) → flaws (object (member (codes "trace") (number (float x)) no_members)) MAX_LEVELS ≡ record { path = key (codes "trace") ∷ []; kind = NotWhole } ∷ []
 a_float x = refl
 
 -- `[[], 1.5, [[]]]` where two levels may nest

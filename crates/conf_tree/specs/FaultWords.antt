@@ -1,13 +1,14 @@
 -- A fault of a configuration in words: the steps to its place joined by `/`, and then what is wrong.
-use Rattle.std.specs.Prelude.{ℕ, List, [], ◌∷◌, ◌++◌, codes}
+use Rattle.std.specs.Prelude.{ℕ, List, [], ◌∷◌, ◌++◌, codes, decimal}
 use Rattle.std.specs.List.{flat_map}
 use Rattle.conf_tree.specs.declared.fault_kind.FaultKind.{FaultKind}
 use Rattle.conf_tree.specs.declared.fault_kind.FaultKind.TheVariants.{NotJson, TooDeep, WrongKind, NotWhole, Missing, Unknown, NoSuchAlias, InheritCycle, OutOfRange, BadName, ReservedName, NameClash, FieldTooSmall, ZeroSizeRecord, NoClock, NoUuid, Limit, TwoOrders, TimestampSize, OutOfMemory}
+use Rattle.conf_tree.specs.declared.limits.TheConstants.{MAX_LEVELS}
 use Rattle.conf_tree.specs.Flaw.{Flaw, Place, text_of_place}
 
 abbrev pub kind_words : FaultKind → List ℕ
 kind_words NotJson = codes "not JSON: expected one JSON value in UTF-8"
-kind_words TooDeep = codes "nested too deep: expected at most 32 levels of objects and lists"
+kind_words TooDeep = codes "nested too deep: expected at most " ++ decimal MAX_LEVELS ++ codes " levels of objects and lists"
 kind_words WrongKind = codes "wrong kind of value: expected the kind that this place asks for"
 kind_words NotWhole = codes "not a whole number: expected one of 64 bits, without fraction or exponent"
 kind_words Missing = codes "property is missing: expected a value here"

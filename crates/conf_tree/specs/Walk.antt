@@ -1,5 +1,5 @@
 -- What is wrong with a JSON value as a configuration, whatever its properties mean: objects and lists nested deeper
--- than 32, and numbers that are no whole numbers of 64 bits. The walk goes over an object or a list before its
+-- than the limit, and numbers that are no whole numbers of 64 bits. The walk goes over an object or a list before its
 -- content, over an object in the order of its members, which is the byte order of their names, and over a list by
 -- index.
 use Rattle.std.specs.Prelude.{◌≡◌, ◌≤◌, ◌⊎◌, ℕ, zero, suc, List, [], ◌∷◌, ◌++◌, length, map, Some, Result, Ok, Err, true, if◌then◌else◌, IsUtf8, ⊤}
@@ -8,6 +8,7 @@ use Rattle.serde_json.specs.Find.{is_float, get_item}
 use Rattle.serde_json.specs.Read.{read}
 use Rattle.conf_tree.specs.declared.fault_kind.FaultKind.{FaultKind}
 use Rattle.conf_tree.specs.declared.fault_kind.FaultKind.TheVariants.{NotJson, TooDeep, NotWhole}
+use Rattle.conf_tree.specs.declared.limits.TheConstants.{MAX_LEVELS}
 use Rattle.conf_tree.specs.Flaw.{Flaw, Place, key, index, here, within}
 
 -- ---- the flaws of a value, in walk order, where so many more levels may nest
@@ -37,9 +38,6 @@ abbrev pub refusal : List Flaw → Result ⊤ Flaw
 refusal [] = Ok tt
 refusal (flaw ∷ rest) = Err flaw
 
-abbrev pub max_levels : ℕ
-max_levels = 32
-
 -- ---- a text and its tree
 
 -- the text is the UTF-8 of a JSON value, which is this one
@@ -48,13 +46,13 @@ Reads text d = IsUtf8 text × (read text ≡ Some d)
 
 -- the value of the text has no flaw
 abbrev pub IsTreeOf : List ℕ → Data → Type 0
-IsTreeOf text d = Reads text d × (flaws d max_levels ≡ [])
+IsTreeOf text d = Reads text d × (flaws d MAX_LEVELS ≡ [])
 
 -- the text is no JSON value, or this is the first flaw of the value that it is
 abbrev pub IsFirstFlaw : List ℕ → Flaw → Type 0
 IsFirstFlaw text flaw =
     ((flaw ≡ here NotJson) × ((d : Data) → ¬ Reads text d))
-    ⊎ ((d : Data) × (rest : List Flaw) × Reads text d × (flaws d max_levels ≡ flaw ∷ rest))
+    ⊎ ((d : Data) × (rest : List Flaw) × Reads text d × (flaws d MAX_LEVELS ≡ flaw ∷ rest))
 
 -- ---- what a flaw means at its place
 

@@ -2,6 +2,7 @@
 ghost use Rattle.std.specs.Prelude.{Some};
 ghost use Rattle.conf_tree.specs.FaultWords.{kind_words};
 
+use crate::MAX_LEVELS;
 use std::error::Error;
 use std::fmt;
 
@@ -36,10 +37,14 @@ impl fmt::Display for FaultKind {
     ghost output = { λ kind. Some (kind_words kind) };
 
     fn fmt<W: fmt::Write>(&self, f: &mut fmt::Formatter<W>) -> fmt::Result {
-        f.write_str(match self {
+        let words = match self {
             FaultKind::NotJson => "not JSON: expected one JSON value in UTF-8",
-            FaultKind::TooDeep =>
-                "nested too deep: expected at most 32 levels of objects and lists",
+            FaultKind::TooDeep => {
+                return write!(
+                    f,
+                    "nested too deep: expected at most {MAX_LEVELS} levels of objects and lists"
+                );
+            }
             FaultKind::WrongKind =>
                 "wrong kind of value: expected the kind that this place asks for",
             FaultKind::NotWhole =>
@@ -70,7 +75,8 @@ impl fmt::Display for FaultKind {
             FaultKind::TimestampSize =>
                 "timestamp field of a wrong size: expected 64 bits, or in event records 8 to 64 where the packet has its beginning timestamp",
             FaultKind::OutOfMemory => "out of memory",
-        })
+        };
+        f.write_str(words)
     }
 }
 

@@ -3,10 +3,11 @@ ghost use Rattle.std.specs.Prelude.{◌⊎◌, IfOk, IfErr};
 ghost use Rattle.serde_json.specs.Data.{Data};
 ghost use Rattle.serde_json.specs.View.{view};
 ghost use Rattle.conf_tree.specs.Flaw.{flaw_of, IsMemory};
-ghost use Rattle.conf_tree.specs.Walk.{IsTreeOf, IsFirstFlaw, Reads, FlawHolds, max_levels};
+ghost use Rattle.conf_tree.specs.Walk.{IsTreeOf, IsFirstFlaw, Reads, FlawHolds};
+ghost use Rattle.conf_tree.specs.declared.limits.TheConstants.{MAX_LEVELS};
 
-use crate::walk::{MAX_LEVELS, check_value};
-use crate::{ConfFault, FaultKind, Tree};
+use crate::walk::check_value;
+use crate::{ConfFault, FaultKind, MAX_LEVELS, Tree};
 use serde_json::Value;
 use std::alloc::Global;
 
@@ -22,7 +23,7 @@ pub fn read_tree(alloc: Global, text: &[u8]) -> Result<Tree, ConfFault>
 
     // Whatever value the text is, the fault's kind holds at its path in it.
     ensures holds { IfErr result (λ fault. IsMemory fault
-        ⊎ ((d : Data) → Reads text.now d → FlawHolds d max_levels (flaw_of fault))) }
+        ⊎ ((d : Data) → Reads text.now d → FlawHolds d MAX_LEVELS (flaw_of fault))) }
 
     // A text without a flaw is refused for want of memory alone.
     ensures only { IfErr result (λ fault. (d : Data) → IsTreeOf text.now d → IsMemory fault) }

@@ -10,9 +10,6 @@ use crate::{ConfFault, FaultKind};
 use serde_json::{Map, Value};
 use std::alloc::Global;
 
-/// The most levels of objects and lists in a configuration.
-pub(crate) const MAX_LEVELS: usize = 32;
-
 /// Refuses a value that nests deeper than `levels`, or that holds a number which is no whole one of 64 bits.
 #[cycle(walk)]
 pub(crate) fn check_value(alloc: Global, value: &Value, levels: usize) -> Result<(), ConfFault>

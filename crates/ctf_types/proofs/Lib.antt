@@ -17,6 +17,7 @@ pub mod StreamFiles
 pub mod StreamOrder
 pub mod Unique
 pub mod WorkedBits
+pub mod WorkedLimits
 pub mod WorkedPacket
 pub mod WorkedRows
 pub mod WrittenAgain

@@ -18,6 +18,7 @@ use Rattle.data_types.specs.declared.metadata.Event.{Event}
 use Rattle.data_types.specs.Chain.{Leaf, Number, Labelled, ByteString}
 use Rattle.data_types.specs.FieldTypes.{chain_of}
 use Rattle.data_types.specs.Members.{names_in}
+use Rattle.ctf_types.specs.declared.limits.TheConstants.{MAX_ARRAYS, MAX_ELEMENTS, MAX_ENVIRONMENT, MAX_MEMBERS, MAX_RANGES}
 use Rattle.ctf_types.specs.Names.{IsMetadataName}
 use Rattle.ctf_types.specs.Packets.{own_names}
 use Rattle.std.specs.List.{list_any}
@@ -36,7 +37,7 @@ pub record IsRange (m : Mapping) : Type 0 where
 
 abbrev pub IsLeaf : List (List ℕ) → Leaf → Type 0
 IsLeaf clocks (Number t) = IsMappedTo clocks t
-IsLeaf clocks (Labelled t) = IsMappedTo clocks t.int × All IsRange t.mappings × (length t.mappings ≤ 65536)
+IsLeaf clocks (Labelled t) = IsMappedTo clocks t.int × All IsRange t.mappings × (length t.mappings ≤ MAX_RANGES)
 IsLeaf clocks ByteString = Unit {0}
 
 -- the product of the lengths of nested arrays, a 0 counted as 1
@@ -45,8 +46,8 @@ elements_of [] = 1
 elements_of (n ∷ ns) = max 1 n * elements_of ns
 
 pub record IsNest (lengths : List ℕ) : Type 0 where
-  pub depth : length lengths ≤ 8
-  pub size : elements_of lengths ≤ 2 ^ 20
+  pub depth : length lengths ≤ MAX_ARRAYS
+  pub size : elements_of lengths ≤ MAX_ELEMENTS
 
 abbrev pub IsField : List (List ℕ) → FieldType → Type 0
 IsField clocks t = IsLeaf clocks (chain_of t).leaf × IsNest (chain_of t).lengths
@@ -80,7 +81,7 @@ pub record IsStruct (clocks : List (List ℕ)) (s : StructType) : Type 0 where
   pub members : AreMembers clocks [] s.members
   pub names : All IsMetadataName (names_in s.members)
   pub distinct : IsDistinct bytes_eq (names_in s.members)
-  pub few : length s.members ≤ 1024
+  pub few : length s.members ≤ MAX_MEMBERS
   pub empty : s.members ≡ [] → s.min_align ≡ 1
 
 -- a member of this name is an unsigned integer
@@ -138,7 +139,7 @@ clock_names m = map (λ c. c.name) m.clocks
 pub record IsMetadata (m : Metadata) : Type 0 where
   pub environment_names : All IsMetadataName (map (λ e. e.name) m.environment)
   pub environment_distinct : IsDistinct bytes_eq (map (λ e. e.name) m.environment)
-  pub environment_few : length m.environment ≤ 256
+  pub environment_few : length m.environment ≤ MAX_ENVIRONMENT
   pub clocks_distinct : IsDistinct bytes_eq (clock_names m)
   pub header : IsStruct (clock_names m) m.header
   pub magic : Where (codes "magic") IsMagic m.header.members

@@ -20,6 +20,7 @@ use Rattle.data_types.specs.declared.struct_type.StructType.{StructType}
 use Rattle.data_types.specs.declared.config.Config.{Config}
 use Rattle.data_types.specs.declared.config.StreamType.{StreamType}
 use Rattle.data_types.specs.declared.config.EventType.{EventType}
+use Rattle.ctf_types.specs.declared.limits.TheConstants.{MAX_CLOCK_TYPES, MAX_CONFIG_MEMBERS, MAX_CONFIG_RANGES, MAX_ENVIRONMENT, MAX_EVENT_TYPES, MAX_STREAM_TYPES}
 use Rattle.ctf_types.specs.Allowed.{IsNest, HasBits}
 use Rattle.data_types.specs.Chain.{Leaf, Number, Labelled, ByteString}
 use Rattle.data_types.specs.FieldTypes.{chain_of}
@@ -60,7 +61,7 @@ pub record IsEnumeration (t : EnumType) : Type 0 where
   pub labels : All (λ m. IsConfigText m.label) t.mappings
   pub in_order : LabelsInOrder t.mappings
   pub some : 0 < length t.mappings
-  pub few : length t.mappings ≤ 1024
+  pub few : length t.mappings ≤ MAX_CONFIG_RANGES
 
 abbrev pub IsConfigLeaf : Leaf → Type 0
 IsConfigLeaf (Number t) = t.clock ≡ None
@@ -80,7 +81,7 @@ pub record AreConfigMembers (ms : List (List ℕ × MemberType)) : Type 0 where
   pub types : All (λ m. IsConfigMember m.1) ms
   pub names : All IsPlainName (names_in ms)
   pub distinct : IsDistinct bytes_eq (names_in (shown_members 0 ms))
-  pub few : length ms ≤ 256
+  pub few : length ms ≤ MAX_CONFIG_MEMBERS
 
 pub record IsConfigStruct (s : StructType) : Type 0 where
   pub members : AreConfigMembers s.members
@@ -147,7 +148,7 @@ pub record IsStreamType (clocks : List (List ℕ)) (s : StreamType) : Type 0 whe
   pub common : IsConfigStruct s.common
   pub events : All (IsEventType s) s.events
   pub events_in_order : InByteOrder (map (λ e. e.name) s.events)
-  pub events_few : length s.events ≤ 1024
+  pub events_few : length s.events ≤ MAX_EVENT_TYPES
 
 -- ---- clock types and the environment
 
@@ -166,10 +167,10 @@ pub record IsConfig (c : Config) : Type 0 where
   pub environment_names : All IsPlainName (map (λ e. e.name) c.environment)
   pub environment_values : All (λ e. IsEnvironmentValue e.value) c.environment
   pub environment_in_order : InByteOrder (map (λ e. e.name) c.environment)
-  pub environment_few : length c.environment ≤ 256
+  pub environment_few : length c.environment ≤ MAX_ENVIRONMENT
   pub clocks : All IsClockType c.clocks
   pub clocks_in_order : InByteOrder (map (λ k. k.name) c.clocks)
-  pub clocks_few : length c.clocks ≤ 64
+  pub clocks_few : length c.clocks ≤ MAX_CLOCK_TYPES
   pub magic : OnlyIf c.header.magic (λ t. IsPlainUnsigned t × (t.size ≡ 32))
   pub uuid : OnlyIf c.header.uuid (λ t. IsPlainUnsigned t × (t.size ≡ 8) × (t.align ≡ 8))
   pub uuid_is_there : IsSome c.header.uuid → IsSome c.uuid
@@ -177,4 +178,4 @@ pub record IsConfig (c : Config) : Type 0 where
   pub stream_id_holds : HoldsUpTo (length c.streams - 1) c.header.stream_id
   pub streams : All (IsStreamType (map (λ k. k.name) c.clocks)) c.streams
   pub streams_in_order : InByteOrder (map (λ s. s.name) c.streams)
-  pub streams_few : length c.streams ≤ 64
+  pub streams_few : length c.streams ≤ MAX_STREAM_TYPES

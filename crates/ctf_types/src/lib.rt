@@ -7,6 +7,7 @@ mod identifier;
 mod laws;
 mod limits;
 mod magic;
+mod own_names;
 mod size;
 
 pub use alignment::{LONGEST_PACKET, align_of, align_of_field};
@@ -22,7 +23,11 @@ pub use laws::{
     allowed_metadata, clean_lies, front_of_packets, joined_packets, lying_fits, one_end,
     one_packet_list, one_value, own_bits_alone, shown_lies,
 };
-pub use limits::{LARGEST_ALIGN, MAX_ARRAYS, MAX_ELEMENTS, MAX_ENVIRONMENT};
+pub use limits::{
+    LARGEST_ALIGN, MAX_ARRAYS, MAX_CLOCK_TYPES, MAX_CONFIG_MEMBERS, MAX_CONFIG_RANGES,
+    MAX_ELEMENTS, MAX_ENVIRONMENT, MAX_EVENT_TYPES, MAX_MEMBERS, MAX_RANGES, MAX_STREAM_TYPES,
+};
 pub use magic::MAGIC;
+pub use own_names::{OWN_NAMES, is_among, is_own_name};
 pub use plain_lists::{Bytes, Duplicate, ListOf, Text};
 pub use size::{members_size, size_from};

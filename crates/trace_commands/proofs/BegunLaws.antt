@@ -1,6 +1,5 @@
 -- The streams of a script, each with its point, and their faults.
 use Rattle.std.proofs.Common.{◌≡◌, ◌≤◌, ◌<◌, ℕ, ◌+◌, zero, suc, Bool, true, false, List, [], ◌∷◌, ◌++◌, Option, None, Some, map, length, length-append, take, drop, take_all, refl, sym, subst, ap, ap₂, ◌∙◌, arith}
-use Rattle.std.proofs.lemmas.Bool.{eqb-true}
 use Rattle.std.proofs.lemmas.Bool.Decides.{nat_tests}
 use Rattle.std.proofs.lemmas.List.{length-map}
 use Rattle.std.proofs.lemmas.List.Elements.{All-cons, All-nil, All-push}
@@ -19,12 +18,13 @@ use Rattle.thread_stream.specs.Starting.{start_fault, stream_named}
 use Rattle.trace_stack.specs.declared.adding.AddFault.{AddFault}
 use Rattle.trace_stack.specs.declared.adding.AddFault.TheVariants as add_fault
 use Rattle.trace_stack.specs.declared.names.NameFault.{NameFault}
-use Rattle.trace_stack.specs.Adding.{known_fault}
+use Rattle.trace_stack.specs.Adding.{begin_fault, known_fault}
 use Rattle.trace_stack.specs.StreamNames.{name_fault}
 use Rattle.trace_stack.specs.Points.{IsOf, is_other, no_point, type_number}
+use Rattle.trace_stack.proofs.Added.{not_other}
 use Rattle.trace_stack.proofs.Fronts.{map-take-more, take-more}
 use Rattle.trace_text.specs.declared.script.ScriptStream.{ScriptStream}
-use Rattle.trace_commands.specs.Begun.{AreRight, Begun, fault_of, floor_at, stream_at}
+use Rattle.trace_commands.specs.Begun.{AreRight, Begun, fault_of, floor_at, point_of}
 use Rattle.trace_commands.specs.Tracing.{IsBadStream}
 
 -- ---- faults
@@ -40,9 +40,10 @@ of_one (Some n) number h = same_number n number h
 pub no_fault : (start : Option StreamFault) (other : Bool) → start ≡ None → other ≡ false → known_fault None start other ≡ None
 no_fault start other none is = subst (λ (o : Option StreamFault). known_fault None o other ≡ None) (sym none) (subst (λ (b : Bool). known_fault None None b ≡ None) (sym is) refl)
 
-stream_of_point : (p : Option ResumePoint) → (unwrap_or p no_point).stream ≡ stream_at p
-stream_of_point None = refl
-stream_of_point (Some p) = refl
+-- it is found by the parts of the stream
+pub same_fault : (c : Config) (bytes : ℕ) (s : ScriptStream) (o : Option ResumePoint) {t : List ℕ} {p : ResumePoint} → t ≡ s.type_name → p ≡ point_of o
+    → fault_of c bytes (s, o) ≡ begin_fault c t bytes s.extras p
+same_fault c bytes s o {t} {p} type point = sym (ap₂ (λ (t : List ℕ) (p : ResumePoint). begin_fault c t bytes s.extras p) type point)
 
 -- so is what a session that was handed equal parts answers, or want of memory
 pub resuming_refused : (c : Config) (bytes : ℕ) (s : ScriptStream) (o : Option ResumePoint) (names : List (List ℕ)) (f : AddFault) {n t : List ℕ} {b : ℕ} {x : List Datum} {p : ResumePoint}
@@ -53,8 +54,8 @@ resuming_refused c bytes s o names f {n} {t} {b} {x} {p} name type size extras p
     let of : Option NameFault → List ℕ → ℕ → List Datum → Option ℕ → AddFault =
     λ named type bytes extras earlier. unwrap_or (known_fault named (start_fault c type bytes extras) (is_other earlier (type_number c type))) (add_fault.Stream NoMemory) in
     let named : name_fault names n ≡ None = ap (λ (l : List ℕ). name_fault names l) name ∙ free in
-    let earlier : p.stream ≡ stream_at o = ap (λ (q : ResumePoint). q.stream) point ∙ stream_of_point o in
-    let same : of (name_fault names n) t b x p.stream ≡ of None s.type_name bytes s.extras (stream_at o) = cc in
+    let earlier : p.stream ≡ (point_of o).stream = ap (λ (q : ResumePoint). q.stream) point in
+    let same : of (name_fault names n) t b x p.stream ≡ of None s.type_name bytes s.extras (point_of o).stream = cc in
     is ∙ same
 
 -- and one without has earlier packets of its own type
@@ -63,26 +64,12 @@ right_type (Some f) other h = absurd (let k : Some (add_fault.Stream f) ≡ None
 right_type None true h = absurd (let k : Some add_fault.WrongStream ≡ None = h in cc)
 right_type None false h = refl
 
-not_false : (b : Bool) → not b ≡ false → b ≡ true
-not_false true e = refl
-not_false false e = absurd (let k : true ≡ false = e in cc)
-
-of_same : (n m : ℕ) → not (nat_eq n m) ≡ false → n ≡ m
-of_same n m h = eqb-true n m (not_false (nat_eq n m) h)
-
-is_of : (p : Option ResumePoint) (number : ℕ) → is_other (stream_at p) (Some number) ≡ false → IsOf (unwrap_or p no_point).stream number
-is_of None number h = tt
-is_of (Some p) number h = go p.stream h
-  where
-    go : (o : Option ℕ) → is_other o (Some number) ≡ false → IsOf o number
-    go None e = tt
-    go (Some n) e = of_same n number e
-
 pub of_its_type : (c : Config) (bytes : ℕ) (s : Begun) (number : ℕ) (type : StreamType) → fault_of c bytes s ≡ None → stream_named s.0.type_name 0 c.streams ≡ Some (number, type)
     → IsOf (unwrap_or s.1 no_point).stream number
 of_its_type c bytes s number type right found =
-    let same = right_type (start_fault c s.0.type_name bytes s.0.extras) (is_other (stream_at s.1) (type_number c s.0.type_name)) right in
-    is_of s.1 number (subst (λ (o : Option (ℕ × StreamType)). is_other (stream_at s.1) (option_map (λ t. t.0) o) ≡ false) found same)
+    let earlier = (point_of s.1).stream in
+    let same = right_type (start_fault c s.0.type_name bytes s.0.extras) (is_other earlier (type_number c s.0.type_name)) right in
+    not_other earlier number (subst (λ (o : Option (ℕ × StreamType)). is_other earlier (option_map (λ t. t.0) o) ≡ false) found same)
 
 -- ---- the streams of a script, each with its point
 
@@ -160,10 +147,6 @@ above_all a start (s ∷ ss) [] h = All-nil (λ (s : Begun). floor_at s.1 ≤ st
 above_all a start (s ∷ ss) (p ∷ ps) h =
     let least = fold_least (max a (floor_at p)) (map floor_at ps) in
     All-cons (λ (s : Begun). floor_at s.1 ≤ start) (s, p) (zip ss ps) (omega (arith, least, h)) (above_all (max a (floor_at p)) start ss ps h)
-
-pub floor_of_point : (p : Option ResumePoint) → (unwrap_or p no_point).floor ≡ floor_at p
-floor_of_point None = refl
-floor_of_point (Some p) = refl
 
 pub none_above : (n : ℕ) → fold max 0 (map floor_at (replicate n None)) ≡ 0
 none_above zero = refl

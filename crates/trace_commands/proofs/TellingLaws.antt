@@ -4,7 +4,7 @@ use Rattle.std.proofs.KnownBytes.{Appends-nil}
 use Rattle.number_packets.specs.declared.numbers.Answer.{Answer}
 use Rattle.trace_commands.specs.declared.failure.Failure.{Failure}
 use Rattle.trace_commands.specs.declared.failure.Failure.TheVariants.{File as FileFailed, OutOfMemory as NoMemory}
-use Rattle.trace_commands.specs.Telling.{Answering, FailsAt, IsFailureLine, IsLineOf, SaysFailure, SaysLine, Tells, Told}
+use Rattle.trace_commands.specs.Telling.{Answering, FailsAt, IsFailureLine, IsLineOf, SaysFailure, SaysLine, IsAnswerAlone, Told}
 
 -- ---- an answer
 
@@ -20,9 +20,9 @@ told_weaker P Q old new olde newe status f (inr (e, inr w)) =
 
 -- an answer that is told is one that may be answered
 pub told_answer : (P : Answering) (a : Answer) (old new olde newe : Option (List ℕ)) (status : ℕ) → P (string_bytes a.output) a.errors.items a.status
-    → Told (Tells a) old new olde newe status → Told P old new olde newe status
+    → Told (IsAnswerAlone a) old new olde newe status → Told P old new olde newe status
 told_answer P a old new olde newe status may told =
-    told_weaker (Tells a) P old new olde newe status (λ output errors s t. rw (t.0, t.1, t.2) may) told
+    told_weaker (IsAnswerAlone a) P old new olde newe status (λ output errors s t. rw (t.0, t.1, t.2) may) told
 
 -- ---- what failed
 

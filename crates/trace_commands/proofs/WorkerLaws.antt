@@ -38,7 +38,7 @@ use Rattle.trace_commands.specs.declared.recording.Sizes.{Sizes}
 use Rattle.trace_commands.specs.Begun.{AreRight, Begun, fault_of, floor_at}
 use Rattle.trace_commands.specs.Tracing.{AreFree, stream_names}
 use Rattle.trace_commands.specs.Workers.{AreWorkers, IsWorkerOf, acts_of, answers_at, is_of_stream, named_line, named_lines, stream_lines}
-use Rattle.trace_commands.proofs.BegunLaws.{AreAbove, begun_at, floor_of_point, length_begun, of_its_type}
+use Rattle.trace_commands.proofs.BegunLaws.{AreAbove, begun_at, length_begun, of_its_type}
 use Rattle.trace_commands.proofs.SessionLaws.{free_first}
 
 -- ---- few streams
@@ -189,7 +189,7 @@ module _ {File : Type 0} where
       let point = ap (λ (p : Option ResumePoint). unwrap_or p no_point) h.1.start in
       let low = All-head (λ (x : Begun). floor_at x.1 ≤ (bounds_of clock).start) s ss above in
       All-cons (CanGoOn c) w ws (record {
-        floor = subst (λ (p : ResumePoint). p.floor ≤ floor_of w.seat) (sym point) (let is = floor_of_point s.1 in omega (arith, start, drew, is, low));
+        floor = subst (λ (p : ResumePoint). p.floor ≤ floor_of w.seat) (sym point) (omega (arith, start, drew, low));
         of_stream = λ number type found. subst (λ (p : ResumePoint). IsOf p.stream number) (sym point)
             (of_its_type c z.bytes s number type (All-head (λ (x : Begun). fault_of c z.bytes x ≡ None) s ss right)
             (subst (λ (name : List ℕ). stream_named name 0 c.streams ≡ Some (number, type)) h.1.type_name found));

@@ -1,12 +1,11 @@
 -- The streams of a script, each with where it begins: behind the packets of its file, or, where no file of it is there, anew.
-use Rattle.std.specs.Prelude.{◌≡◌, ◌<◌, ◌+◌, ◌*◌, ◌^◌, ℕ, max, List, Option, None, Some, fold, length, map, replicate, zip}
+use Rattle.std.specs.Prelude.{◌≡◌, ◌<◌, ◌+◌, ◌*◌, ◌^◌, ℕ, max, List, Option, None, Some, fold, length, map, replicate, unwrap_or, zip}
 use Rattle.std.specs.List.{All}
 use Rattle.ctf_types.specs.declared.Config.{Config}
 use Rattle.packet_reader.specs.declared.resuming.ResumePoint.{ResumePoint}
-use Rattle.thread_stream.specs.Starting.{start_fault}
 use Rattle.trace_stack.specs.declared.adding.AddFault.{AddFault}
-use Rattle.trace_stack.specs.Adding.{known_fault}
-use Rattle.trace_stack.specs.Points.{is_other, type_number}
+use Rattle.trace_stack.specs.Adding.{begin_fault}
+use Rattle.trace_stack.specs.Points.{no_point}
 use Rattle.trace_text.specs.declared.script.Script.{Script}
 use Rattle.trace_text.specs.declared.script.ScriptStream.{ScriptStream}
 use Rattle.command_words.specs.declared.quota.Quota.{Quota}
@@ -24,10 +23,13 @@ all_anew s = replicate (length s.streams) None
 
 -- ---- clock values
 
+-- where the stream begins: behind the packets of its file, or before all packets
+abbrev pub point_of : Option ResumePoint → ResumePoint
+point_of point = unwrap_or point no_point
+
 -- what no clock value of the stream is below
 abbrev pub floor_at : Option ResumePoint → ℕ
-floor_at None = 0
-floor_at (Some p) = p.floor
+floor_at point = (point_of point).floor
 
 -- the largest of these, 0 without a point
 abbrev pub largest_floor : List (Option ResumePoint) → ℕ
@@ -40,14 +42,9 @@ HasRoom (Some quota) workers start = start + quota.readings * workers < 2 ^ 64
 
 -- ---- faults
 
--- the earlier packets are of this data stream type, if there are any
-abbrev pub stream_at : Option ResumePoint → Option ℕ
-stream_at None = None
-stream_at (Some p) = p.stream
-
--- why the stream is not begun, memory aside: what it is made from has a fault, or else the earlier packets are of another data stream type
+-- why the stream is not begun, memory aside
 abbrev pub fault_of : Config → ℕ → Begun → Option AddFault
-fault_of c bytes b = known_fault None (start_fault c b.0.type_name bytes b.0.extras) (is_other (stream_at b.1) (type_number c b.0.type_name))
+fault_of c bytes b = begin_fault c b.0.type_name bytes b.0.extras (point_of b.1)
 
 -- none of them has such a fault
 abbrev pub AreRight : Config → ℕ → List Begun → Type 0

@@ -26,7 +26,7 @@ abbrev pub IsExplainedIn : List ℕ → List ℕ → ConfFault → List ℕ → 
 IsExplainedIn path text fault line = (said : List ℕ) × IsExplanation text fault said × (line ≡ fault_line path said)
 
 -- nothing is printed, and a line explains the first fault
-pub record IsFaultOf (path text : List ℕ) (number : Option (List ℕ)) (output errors : List ℕ) (status : ℕ) : Type 0 where
+pub record IsConfigurationFault (path text : List ℕ) (number : Option (List ℕ)) (output errors : List ℕ) (status : ℕ) : Type 0 where
   pub fault : ConfFault
   pub refused : IsRefused text number fault
   pub nothing : output ≡ []
@@ -36,7 +36,7 @@ pub record IsFaultOf (path text : List ℕ) (number : Option (List ℕ)) (output
 -- the text is this configuration, or it is none, which this answers
 abbrev pub IsJudged : List ℕ → List ℕ → Option (List ℕ) → Judged → Type 0
 IsJudged path text number (Right c) = Configures text number c × IsConfig c
-IsJudged path text number (Refused a) = IsFaultOf path text number (string_bytes a.output) a.errors.items a.status
+IsJudged path text number (Refused a) = IsConfigurationFault path text number (string_bytes a.output) a.errors.items a.status
 
 -- ---- check
 
@@ -66,7 +66,7 @@ pub record IsCounted (path text output errors : List ℕ) (status : ℕ) : Type 
   pub fine : status ≡ 0
 
 abbrev pub IsChecked : List ℕ → List ℕ → List ℕ → List ℕ → ℕ → Type 0
-IsChecked path text output errors status = IsCounted path text output errors status ⊎ IsFaultOf path text None output errors status
+IsChecked path text output errors status = IsCounted path text output errors status ⊎ IsConfigurationFault path text None output errors status
 
 -- ---- metadata
 
@@ -78,6 +78,6 @@ pub record IsWritten (text : List ℕ) (number : Option (List ℕ)) (output erro
   pub errors_are : errors ≡ []
   pub fine : status ≡ 0
 
-abbrev pub IsMetadata : List ℕ → List ℕ → Option (List ℕ) → List ℕ → List ℕ → ℕ → Type 0
-IsMetadata path text number output errors status =
-    IsWritten text number output errors status ⊎ IsFaultOf path text number output errors status
+abbrev pub IsMetadataAnswer : List ℕ → List ℕ → Option (List ℕ) → List ℕ → List ℕ → ℕ → Type 0
+IsMetadataAnswer path text number output errors status =
+    IsWritten text number output errors status ⊎ IsConfigurationFault path text number output errors status

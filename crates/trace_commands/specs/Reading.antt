@@ -62,7 +62,7 @@ pub record HasFault (text : List ℕ) (fault : MetaFault) : Type 0 where
   pub none : (m : Metadata) → Denotes text m → ⊥
 
 -- nothing is printed, and a line of the file explains this fault of its text
-pub record IsRefusal (folder text : List ℕ) (fault : MetaFault) (output errors : List ℕ) (status : ℕ) : Type 0 where
+pub record ExplainsFault (folder text : List ℕ) (fault : MetaFault) (output errors : List ℕ) (status : ℕ) : Type 0 where
   pub output_is : output ≡ []
   pub said : List ℕ
   pub explained : IsExplained text fault said
@@ -72,7 +72,7 @@ pub record IsRefusal (folder text : List ℕ) (fault : MetaFault) (output errors
 pub record IsMetadataFault (folder text output errors : List ℕ) (status : ℕ) : Type 0 where
   pub fault : MetaFault
   pub has : HasFault text fault
-  pub refusal : IsRefusal folder text fault output errors status
+  pub refusal : ExplainsFault folder text fault output errors status
 
 -- a metadata text has this fault, or memory was wanting
 abbrev pub IsFaultOf : List ℕ → TraceFault → Type 0
@@ -123,13 +123,13 @@ ShowsTrace folder text sources old new old_errors new_errors status =
 -- ---- the command
 
 -- the printed trace, or the metadata's fault
-abbrev pub TellsFolder : List ℕ → List ℕ → List Source → Option (List ℕ) → Option (List ℕ) → Option (List ℕ) → Option (List ℕ) → ℕ → Type 0
-TellsFolder folder text sources old new old_errors new_errors status =
+abbrev pub TellsOpened : List ℕ → List ℕ → List Source → Option (List ℕ) → Option (List ℕ) → Option (List ℕ) → Option (List ℕ) → ℕ → Type 0
+TellsOpened folder text sources old new old_errors new_errors status =
     ShowsTrace folder text sources old new old_errors new_errors status
     ⊎ Told (IsMetadataFault folder text) old new old_errors new_errors status
 
 -- the answer to what the files of the folder had to give; or a file was not opened, the metadata was not read, or memory was wanting
 abbrev pub ReadsFolder : {File : Type 0} → (File → Option (List ℕ)) → List ℕ → Option (List ℕ) → Option (List ℕ) → Option (List ℕ) → Option (List ℕ) → ℕ → Type 0
 ReadsFolder remaining folder old new old_errors new_errors status =
-    ((text : List ℕ) × (sources : List Source) × IsOpened remaining text sources × TellsFolder folder text sources old new old_errors new_errors status)
+    ((text : List ℕ) × (sources : List Source) × IsOpened remaining text sources × TellsOpened folder text sources old new old_errors new_errors status)
     ⊎ ((status ≡ 3) × SaysFailure (IsLineOf (IsPathIn folder)) old new old_errors new_errors)

@@ -5,7 +5,7 @@ use Rattle.command_words.specs.declared.commands.Command.TheVariants.{FirstPath,
 use Rattle.command_words.specs.CommandLine.{Asks, HasNoCommand}
 use Rattle.command_words.specs.LineFaults.{IsFaultOfWords}
 use Rattle.number_packets.specs.FirstPath.{IsAnswer}
-use Rattle.trace_commands.specs.Checking.{IsChecked, IsMetadata}
+use Rattle.trace_commands.specs.Checking.{IsChecked, IsMetadataAnswer}
 use Rattle.trace_commands.specs.ListSessions.{AreSizes}
 use Rattle.trace_commands.specs.Reading.{ReadsFolder}
 use Rattle.trace_commands.specs.Telling.{AnswersFile, IsFileLine, IsLineOf, IsMemoryLine, SaysFailure, TellsNoCommand, ToldOrFails}
@@ -25,7 +25,7 @@ Does contents remaining FirstPath input old new old_errors new_errors status =
 Does contents remaining (Check path) input old new old_errors new_errors status =
     AnswersFile remaining path.now (IsChecked path.now) old new old_errors new_errors status
 Does contents remaining (Metadata m) input old new old_errors new_errors status =
-    AnswersFile remaining m.config.now (λ text. IsMetadata m.config.now text m.uuid) old new old_errors new_errors status
+    AnswersFile remaining m.config.now (λ text. IsMetadataAnswer m.config.now text m.uuid) old new old_errors new_errors status
 Does contents remaining (Trace t) input old new old_errors new_errors status =
     ToldOrFails (IsLineOf (IsTracePath t)) (TellsTrace contents remaining t) old new old_errors new_errors status
 Does contents remaining (Read r) input old new old_errors new_errors status =

@@ -1,11 +1,15 @@
 -- Where the line of a script's fault says that the fault lies.
-use Rattle.std.specs.Prelude.{◌≡◌, ◌⊎◌, ℕ, List, ◌++◌, Some, codes, slice_get}
+use Rattle.std.specs.Prelude.{◌≡◌, ◌⊎◌, ℕ, List, [], ◌++◌, Some, codes, slice_get}
 use Rattle.std.specs.Fmt.{decimal}
 use Rattle.serde_json.specs.Data.{Data}
 use Rattle.conf_fault.specs.Explanation.{IsPlaceWords}
 use Rattle.conf_fault.specs.Shown.{cut}
 use Rattle.conf_tree.specs.Walk.{Reads}
 use Rattle.ctf_types.specs.declared.Config.{Config}
+use Rattle.thread_stream.specs.declared.stream_fault.StreamFault.TheVariants.{NoSuchStream, BadExtras, BufferTooSmall, SizeField, OutOfMemory}
+use Rattle.trace_stack.specs.declared.adding.AddFault.{AddFault}
+use Rattle.trace_stack.specs.declared.adding.AddFault.TheVariants.{Name, Stream, WrongStream}
+use Rattle.trace_stack.specs.FaultWords.{add_words}
 use Rattle.trace_text.specs.declared.script.Script.{Script}
 use Rattle.trace_text.specs.declared.script.ScriptStream.{ScriptStream}
 use Rattle.trace_text.specs.declared.script_fault.ScriptFault.{ScriptFault}
@@ -28,6 +32,20 @@ pub record IsStreamLine (file : List ℕ) (s : Script) (number : ℕ) (words : L
   pub stream : ScriptStream
   pub there : slice_get s.streams number ≡ Some stream
   pub said : line ≡ fault_line file (of_entry Streams number (cut stream.name ++ codes ": " ++ words))
+
+-- the option by which a packet has room, where it has none
+abbrev pub size_hint : AddFault → List ℕ
+size_hint (Name fault) = []
+size_hint (Stream NoSuchStream) = []
+size_hint (Stream (BadExtras fault)) = []
+size_hint (Stream BufferTooSmall) = codes " (--packet makes packets larger)"
+size_hint (Stream SizeField) = []
+size_hint (Stream OutOfMemory) = []
+size_hint WrongStream = []
+
+-- why a stream is not begun, in words
+abbrev pub begin_words : AddFault → List ℕ
+begin_words fault = add_words fault ++ size_hint fault
 
 -- ---- a text that is no script
 

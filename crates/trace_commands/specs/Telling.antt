@@ -54,8 +54,8 @@ IsToldWith None errors status = (errors ≡ []) × (status ≡ 0)
 IsToldWith (Some line) errors status = (errors ≡ line) × (status ≡ 3)
 
 -- this answer alone
-abbrev pub Tells : Answer → Answering
-Tells answer output errors status = (output ≡ string_bytes answer.output) × (errors ≡ answer.errors.items) × (status ≡ answer.status)
+abbrev pub IsAnswerAlone : Answer → Answering
+IsAnswerAlone answer output errors status = (output ≡ string_bytes answer.output) × (errors ≡ answer.errors.items) × (status ≡ answer.status)
 
 pub record ToldWhole (P : Answering) (old new old_errors new_errors : Option (List ℕ)) (status : ℕ) : Type 0 where
   pub output : List ℕ

@@ -22,7 +22,7 @@ use Rattle.trace_stack.specs.declared.names.NameFault.{NameFault}
 use Rattle.trace_stack.specs.declared.worker.ThreadsFault.{ThreadsFault}
 use Rattle.trace_stack.specs.declared.worker.ThreadsRun.{ThreadsRun}
 use Rattle.trace_stack.specs.declared.worker.Worker.{Worker}
-use Rattle.trace_stack.specs.FaultWords.{add_words, name_words, threads_words}
+use Rattle.trace_stack.specs.FaultWords.{name_words, threads_words}
 use Rattle.trace_stack.specs.Workers.{ThreadsRan}
 use Rattle.trace_text.specs.declared.script.Script.{Script}
 use Rattle.trace_text.specs.declared.script.ScriptStream.{ScriptStream}
@@ -39,11 +39,11 @@ use Rattle.trace_commands.specs.declared.recording.NotRecorded.TheVariants.{Stre
 use Rattle.trace_commands.specs.declared.recording.Sizes.{Sizes}
 use Rattle.trace_commands.specs.AnswerLines.{answer_lines}
 use Rattle.trace_commands.specs.Begun.{AreRight, Begun, HasRoom, all_anew, begun, fault_of, largest_floor}
-use Rattle.trace_commands.specs.Checking.{IsFaultOf}
+use Rattle.trace_commands.specs.Checking.{IsConfigurationFault}
 use Rattle.trace_commands.specs.ListSessions.{IsRecording}
 use Rattle.trace_commands.specs.Reading.{IsPathIn}
 use Rattle.trace_commands.specs.Resuming.{HasBroken, HasMetadata, HasOtherMetadata, HasPoint}
-use Rattle.trace_commands.specs.ScriptLines.{IsBadScript, IsStreamLine}
+use Rattle.trace_commands.specs.ScriptLines.{IsBadScript, IsStreamLine, begin_words}
 use Rattle.trace_commands.specs.Settling.{SaysSettling}
 use Rattle.trace_commands.specs.FaultLines.{fault_line}
 use Rattle.trace_commands.specs.Telling.{IsToldWith, WasGiven}
@@ -83,12 +83,12 @@ pub record IsBadStream (c : Config) (bytes : ℕ) (streams : List Begun) (number
   pub first : fault_of c bytes stream ≡ Some fault
 
 -- for a session the stream of this number has this fault, or memory was wanting
-abbrev pub IsRefusal : ℕ → Option AddFault → NotRecorded → Type 0
-IsRefusal place first (Stream number fault) = (number ≡ place) × (first ≡ Some fault)
-IsRefusal place first OutOfMemory = Unit {0}
+abbrev pub IsNotAdded : ℕ → Option AddFault → NotRecorded → Type 0
+IsNotAdded place first (Stream number fault) = (number ≡ place) × (first ≡ Some fault)
+IsNotAdded place first OutOfMemory = Unit {0}
 
 abbrev pub Refuses : Config → ℕ → ℕ → Begun → NotRecorded → Type 0
-Refuses c bytes place s r = IsRefusal place (fault_of c bytes s) r
+Refuses c bytes place s r = IsNotAdded place (fault_of c bytes s) r
 
 -- one of these streams, the first of them, has a fault, or memory was wanting
 abbrev pub RefusesOne : Config → ℕ → List Begun → NotRecorded → Type 0
@@ -98,7 +98,7 @@ RefusesOne c bytes streams OutOfMemory = Unit {0}
 -- a line of the script speaks of the first stream that is not begun
 abbrev pub TellsBadStream : TraceCommand → Config → Script → List (Option ResumePoint) → List ℕ → List ℕ → ℕ → Type 0
 TellsBadStream t c s points output errors status =
-    (number : ℕ) × (fault : AddFault) × IsBadStream c t.packet_bytes (begun s points) number fault × IsSaidOfStream t.script.now s number (add_words fault) output errors status
+    (number : ℕ) × (fault : AddFault) × IsBadStream c t.packet_bytes (begun s points) number fault × IsSaidOfStream t.script.now s number (begin_words fault) output errors status
 
 -- that the clock has not all numbers that the workers may read
 abbrev pub no_room_line : List ℕ → List ℕ
@@ -218,7 +218,7 @@ module _ {File : Type 0} (contents : File → Option (List ℕ)) where
     -- of the text of a configuration's file
     abbrev pub TellsFirst : TraceCommand → List ℕ → List ℕ → List ℕ → ℕ → Type 0
     TellsFirst t text output errors status =
-        IsFaultOf t.config.now text t.uuid output errors status
+        IsConfigurationFault t.config.now text t.uuid output errors status
         ⊎ ((c : Config) × Configures text t.uuid c × TellsConfig t c output errors status)
 
     -- of the command: the configuration's file is read

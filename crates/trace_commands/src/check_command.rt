@@ -1,6 +1,6 @@
 //! `check`: judges a configuration, and says how much is in it.
 
-ghost use Rattle.std.specs.Prelude.{◌≡◌, ◌+◌, map, sum, length, IfOk, None, string_bytes};
+ghost use Rattle.std.specs.Prelude.{◌≡◌, ◌+◌, sum, IfOk, None, string_bytes};
 ghost use Rattle.trace_commands.specs.Checking.{IsChecked, counted_line, events_in, hint_line};
 ghost use Rattle.trace_commands.specs.Telling.{AnswersFile};
 

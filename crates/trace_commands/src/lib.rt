@@ -33,6 +33,5 @@ mod worker_lines;
 mod workers_command;
 
 pub use answer::{OUT_OF_MEMORY, fail};
-pub use first_command::first_path;
 pub use progress::{CountedFiles, Progress, Tally};
 pub use running::run;

@@ -1,7 +1,7 @@
 //! `metadata`: prints the metadata of a configuration.
 
 ghost use Rattle.std.specs.Prelude.{IfOk, string_bytes};
-ghost use Rattle.trace_commands.specs.Checking.{IsMetadata};
+ghost use Rattle.trace_commands.specs.Checking.{IsMetadataAnswer};
 ghost use Rattle.trace_commands.specs.Telling.{AnswersFile};
 
 use crate::answer::{OUT_OF_MEMORY, fail, tell};
@@ -22,7 +22,7 @@ pub fn metadata<X: Files + AllocGlobal + Clone + Drop, W: Write, E: Write>(
     output: &mut W,
     errors: &mut E,
 ) -> u8
-    ensures { AnswersFile X.File.remaining asked.now.config.now (λ text. IsMetadata asked.now.config.now text asked.now.uuid) (W.contents output.old) (W.contents output.new) (E.contents errors.old) (E.contents errors.new) result }
+    ensures { AnswersFile X.File.remaining asked.now.config.now (λ text. IsMetadataAnswer asked.now.config.now text asked.now.uuid) (W.contents output.old) (W.contents output.new) (E.contents errors.old) (E.contents errors.new) result }
 {
     let text = match read_file(rt, asked.config) {
         Ok(text) => text,
@@ -41,7 +41,7 @@ fn metadata_text(
     text: &[u8],
     number: Option<Uuid>,
 ) -> Result<Answer, AllocError>
-    ensures { IfOk result (λ a. IsMetadata path.now text.now number (string_bytes a.output) a.errors.items a.status) }
+    ensures { IfOk result (λ a. IsMetadataAnswer path.now text.now number (string_bytes a.output) a.errors.items a.status) }
 {
     match judge(alloc, path, text, number)? {
         Judged::Right(config) => Ok(Answer {

@@ -1,5 +1,5 @@
 -- What is counted of a stream file, packet by packet.
-use Rattle.std.specs.Prelude.{◌≡◌, ◌⊎◌, ℕ, ◌^◌, ◌≤◌, List, length}
+use Rattle.std.specs.Prelude.{◌≡◌, ◌⊎◌, ◌^◌, ◌≤◌, List, length}
 use Rattle.ctf_types.specs.declared.Metadata.{Metadata}
 use Rattle.ctf_types.specs.declared.ReadPacket.{ReadPacket}
 use Rattle.packet_reader.specs.declared.read_stop.ReadStop.{ReadStop}

@@ -3,3 +3,4 @@ pub mod Parts
 pub mod Stops
 pub mod Texts
 pub mod TextStops
+pub mod WorkedLimits

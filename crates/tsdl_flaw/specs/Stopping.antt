@@ -24,7 +24,7 @@ kind_of (flaws.NumberTwice numbered) = faults.Duplicate
 kind_of flaws.NoPacketSize = faults.NoPacketSize
 kind_of (flaws.NoSize sizeless) = faults.NoPacketSize
 kind_of flaws.BadLength = faults.BadLength
-kind_of (flaws.Limit expected) = faults.Limit
+kind_of (flaws.Limit limit) = faults.Limit
 
 -- the fault stands among these atoms, of which the first has this index and stands behind a front
 pub record StandsIn (front : List Atom) (at : ℕ) (toks : List Atom) (fault : Fault) : Type 0 where

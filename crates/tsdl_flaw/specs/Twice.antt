@@ -1,7 +1,7 @@
 -- What stands twice: a name, the number of a stream or an event, or a block that may stand once only. The front is what stands before the place, and
 -- the piece what stands there.
-use Rattle.std.specs.Prelude.{◌≡◌, ℕ, ◌⊎◌, List, [], ◌∷◌, ◌++◌, Option, Some, None, codes}
-use Rattle.std.specs.List.{flat_map}
+use Rattle.std.specs.Prelude.{◌≡◌, ℕ, ◌⊎◌, List, [], ◌∷◌, ◌++◌, map, Option, Some, None, codes}
+use Rattle.std.specs.List.{Contains, flat_map}
 use Rattle.tsdl_grammar.specs.declared.token.Mark.{Mark}
 use Rattle.tsdl_grammar.specs.declared.token.Mark.TheVariants as marks
 use Rattle.tsdl_grammar.specs.declared.atom.Atom.{Atom}
@@ -10,9 +10,11 @@ use Rattle.tsdl_grammar.specs.declared.tree.Number.{Number}
 use Rattle.tsdl_grammar.specs.declared.tree.Value.{Value}
 use Rattle.tsdl_grammar.specs.declared.tree.Kind.{Kind}
 use Rattle.tsdl_grammar.specs.declared.tree.Item.{Item}
+use Rattle.tsdl_grammar.specs.declared.tree.Item.TheVariants.{Attribute, Scope}
+use Rattle.tsdl_grammar.specs.declared.tree.MemberTree.{MemberTree}
 use Rattle.tsdl_grammar.specs.declared.tree.NamedFact.{NamedFact}
 use Rattle.tsdl_grammar.specs.declared.tree.Block.TheVariants as blocks
-use Rattle.tsdl_grammar.specs.Spelling.{mark, word, name_toks, number_toks, value_toks, kind_toks, item_toks, block_toks}
+use Rattle.tsdl_grammar.specs.Spelling.{mark, word, name_toks, number_toks, value_toks, kind_toks, member_toks, item_toks, block_toks}
 use Rattle.tsdl_grammar.specs.Steps.{◌>>=◌}
 use Rattle.tsdl_grammar.specs.Lookups.{attr, attrs_in}
 use Rattle.tsdl_grammar.specs.AttributeValues.{natural, name_value}
@@ -20,22 +22,30 @@ use Rattle.tsdl_grammar.specs.BlockMeaning.{number_or_zero}
 use Rattle.tsdl_flaw.specs.Written.{written}
 use Rattle.tsdl_flaw.specs.Fronts.{Ends, Holds}
 
--- a name with its mark, `=` or `:=`: of an attribute, a scope or an environment's entry
+-- the name of an item and the mark behind it
+abbrev pub heading : Item → Name × Mark
+heading (Attribute a) = (a.name, marks.Equals)
+heading (Scope s) = (s.name, marks.Assign)
+
+-- a name with its mark: of an attribute, of a scope, or of an entry of an environment, which is spelled as an attribute is. Between the opening brace and the
+-- name stand these items, and one of them has the same name and mark.
 pub record IsNameTwice (front piece : List Atom) : Type 0 where
   pub name : Name
   pub other : Name
   pub behind : Mark
+  pub items : List Item
+  pub ends : Ends front (mark marks.OpenBrace ∷ flat_map item_toks items)
+  pub before : Contains (map heading items) (other, behind)
   pub same : written other ≡ written name
-  pub before : Holds front (name_toks other ++ mark behind ∷ [])
   pub here : piece ≡ name_toks name ++ mark behind ∷ []
 
--- the name of a member, which stands behind its kind
+-- the name of a member. Between the opening brace and the member's kind stand these members, and one of them has the name.
 pub record IsMemberTwice (front piece : List Atom) : Type 0 where
   pub name : List ℕ
   pub kind : Kind
-  pub other : Kind
-  pub before : Holds front (kind_toks other ++ word name ∷ [])
-  pub ends : Ends front (kind_toks kind)
+  pub members : List MemberTree
+  pub ends : Ends front (mark marks.OpenBrace ∷ flat_map member_toks members ++ kind_toks kind)
+  pub before : Contains (map (λ m. m.name) members) name
   pub here : piece ≡ word name ∷ []
 
 -- a block of this word, behind its opening brace and these items

@@ -9,6 +9,7 @@ ghost use Rattle.tsdl_flaw.specs.Stopping.{kind_of, StopsIn};
 ghost use Rattle.tsdl_flaw.specs.Written.{written};
 ghost use Rattle.tsdl_flaw.specs.declared.flaw.Stop.TheVariants as stops;
 
+use crate::limit::Limit;
 use crate::spelled::Spelled;
 use std::alloc::{AllocError, AllocFailed, Global};
 use tsdl_grammar::{MetaFaultKind, Name};
@@ -38,8 +39,8 @@ pub enum Flaw {
     /// A stream's packet context without one of the sizes.
     NoSize(Sizeless),
     BadLength,
-    /// More than these words allow.
-    Limit(&'static str),
+    /// More than a limit allows.
+    Limit(Limit),
 }
 
 impl Flaw {
@@ -66,7 +67,8 @@ impl Flaw {
             Flaw::Syntax(expected) => {
                 format!(in alloc; "{}: expected {expected}", MetaFaultKind::Syntax)?
             }
-            Flaw::Limit(expected) => {
+            Flaw::Limit(limit) => {
+                let expected = limit.words(alloc)?;
                 format!(in alloc; "{}: expected {expected}", MetaFaultKind::Limit)?
             }
             Flaw::NamedType => {

@@ -2,7 +2,9 @@
 #![tactic(auto)]
 
 mod flaw;
+mod limit;
 mod spelled;
 
 pub use flaw::{CONVERTED, Fault, Flaw, Numbered, Orphan, Remedy, Sizeless, Stop, dotted};
+pub use limit::Limit;
 pub use spelled::Spelled;

@@ -1,12 +1,12 @@
 -- What clock, stream and event blocks mean, taken apart.
 use Rattle.std.proofs.Common.{◌≡◌, ℕ, true, false, ◌&&◌, List, [], ◌∷◌, Some, subst, pos, codes}
 use Rattle.std.proofs.lemmas.Option.{same_Some}
-use Rattle.ctf_types.specs.{declared.ClockType.ClockType, declared.Stream.Stream, declared.Event.Event}
+use Rattle.ctf_types.specs.{declared.ClockType.ClockType, declared.Stream.Stream, declared.Event.Event, Packets.own_names}
 use Rattle.tsdl_grammar.specs.declared.tree.Item.{Item}
 use Rattle.tsdl_grammar.specs.{Steps.◌>>=◌, IntegerMeaning.Known, StructureMeaning.{scope_meaning, has_member}}
 use Rattle.tsdl_grammar.specs.Lookups.{attr, attrs_in, scopes_in, has_parts}
 use Rattle.tsdl_grammar.specs.AttributeValues.{natural_value, whole_value, text_value, name_value, uuid_value, flag_value, with_default, optional}
-use Rattle.tsdl_grammar.specs.BlockMeaning.{number_or_zero, clock_meaning, stream_meaning, event_meaning, packet_context, event_header, event_context, context_names, suits, specific_context, fields_scope}
+use Rattle.tsdl_grammar.specs.BlockMeaning.{number_or_zero, clock_meaning, stream_meaning, event_meaning, packet_context, event_header, event_context, suits, specific_context, fields_scope}
 use Rattle.tsdl_grammar.specs.Laws.{SaysClock, SaysStream, SaysEvent}
 use Rattle.tsdl_grammar.proofs.Inversion.{bind_some, provided_some}
 
@@ -33,7 +33,7 @@ says_stream known is t e =
     let scopes = scopes_in is in
     let p = provided_some (has_parts (packet_context ∷ event_header ∷ event_context ∷ []) is) _ t e in
     let a = bind_some (number_or_zero (codes "id") (attrs_in is)) _ t p.1 in
-    let b = bind_some (scope_meaning known packet_context (suits context_names) scopes) _ t a.2 in
+    let b = bind_some (scope_meaning known packet_context (suits own_names) scopes) _ t a.2 in
     let c = bind_some (scope_meaning known event_header (suits (codes "id" ∷ [])) scopes) _ t b.2 in
     let d = bind_some (scope_meaning known event_context (λ m. true) scopes) _ t c.2 in
     let q = provided_some (has_member (codes "packet_size") b.0.members && has_member (codes "content_size") b.0.members) _ t d.2 in

@@ -2,7 +2,7 @@
 use Rattle.std.proofs.Common.{◌≡◌, ℕ, suc, Bool, true, false, not, cond, ◌&&◌, List, [], ◌∷◌, ◌++◌, map, length, Option, Some, refl, sym, ap, ap₂, subst, ◌∙◌, inl, inr, codes, nat_le, flat_map, bytes_eq}
 use Rattle.std.specs.{List.{list_any, list_all}, Cmp.IsEquivalence, Cmp.Lexicographic.{lists_equiv, nat_list_eq_equiv}}
 use Rattle.std.proofs.{lemmas.Bool.cases_Bool, lemmas.List.Concat.flat_map-cons, lemmas.Option.same_Some}
-use Rattle.ctf_types.specs.{declared.EnvironmentEntry.EnvironmentEntry, declared.Metadata.Metadata}
+use Rattle.ctf_types.specs.{declared.EnvironmentEntry.EnvironmentEntry, declared.Metadata.Metadata, declared.limits.TheConstants.MAX_ENVIRONMENT}
 use Rattle.tsdl_grammar.specs.{declared.tree.Item.Item, declared.tree.NamedFact.NamedFact, declared.tree.Block.Block}
 use Rattle.tsdl_grammar.specs.{IntegerMeaning.Known, Laws.SaysMetadata}
 use Rattle.tsdl_grammar.specs.Steps.{◌>>=◌, provided, only, at_most_one, each}
@@ -27,11 +27,11 @@ looks_swap true false u v o h = refl
 looks_swap false true u v o h = refl
 looks_swap false false u v o h = refl
 
-distinct_stay : {A : Type 0} (name : A → List (List ℕ)) {xs ys : List A} → Reordered xs ys → are_distinct (map name xs) ≡ are_distinct (map name ys)
+pub distinct_stay : {A : Type 0} (name : A → List (List ℕ)) {xs ys : List A} → Reordered xs ys → are_distinct (map name xs) ≡ are_distinct (map name ys)
 distinct_stay name r = no_two_stays same_words words_equiv.symm (reordered_map name r)
 
 -- what stands under a name is the same in any order, where no name stands twice
-look_stays : {A B : Type 0} (name : A → List (List ℕ)) (value : A → B) (n : List (List ℕ)) (look : List A → Option B)
+pub look_stays : {A B : Type 0} (name : A → List (List ℕ)) (value : A → B) (n : List (List ℕ)) (look : List A → Option B)
     → ((x : A) (xs : List A) → look (x ∷ xs) ≡ cond (same_words (name x) n) (Some (value x)) (look xs)) → {xs ys : List A} → Reordered xs ys → are_distinct (map name xs) ≡ true → look xs ≡ look ys
 look_stays name value n look step (same xs) d = refl
 look_stays name value n look step (neighbours x y xs) d =
@@ -107,14 +107,14 @@ environment_stays : (fs gs : List NamedFact) (entries : List EnvironmentEntry) �
     → (others : List EnvironmentEntry) × (environment_meaning gs ≡ Some others) × Reordered entries others
 unfolding environment_meaning
 environment_stays fs gs entries r e =
-    let p = provided_some (nat_le (length fs) 256 && no_two bytes_eq (map (λ f. f.name) fs)) (each named_fact_meaning fs) entries e in
+    let p = provided_some (nat_le (length fs) MAX_ENVIRONMENT && no_two bytes_eq (map (λ f. f.name) fs)) (each named_fact_meaning fs) entries e in
     let i = each_stays named_fact_meaning entries r p.1 in
-    let tests : (nat_le (length fs) 256 && no_two bytes_eq (map (λ f. f.name) fs)) ≡ (nat_le (length gs) 256 && no_two bytes_eq (map (λ f. f.name) gs)) =
-    ap₂ (λ (n : ℕ) (b : Bool). nat_le n 256 && b) (gathered_stay length (λ f n. suc n) (λ f fs. refl) (λ f g n. refl) r) (no_two_stays bytes_eq nat_list_eq_equiv.symm (reordered_map (λ f. f.name) r))
+    let tests : (nat_le (length fs) MAX_ENVIRONMENT && no_two bytes_eq (map (λ f. f.name) fs)) ≡ (nat_le (length gs) MAX_ENVIRONMENT && no_two bytes_eq (map (λ f. f.name) gs)) =
+    ap₂ (λ (n : ℕ) (b : Bool). nat_le n MAX_ENVIRONMENT && b) (gathered_stay length (λ f n. suc n) (λ f fs. refl) (λ f g n. refl) r) (no_two_stays bytes_eq nat_list_eq_equiv.symm (reordered_map (λ f. f.name) r))
     in
     (i.0, ap (λ (b : Bool). provided b (each named_fact_meaning gs)) (sym tests ∙ p.0) ∙ i.1, i.2)
 
-paired_append : {A : Type 0} {R : A → A → Type 0} {xs ys us vs : List A} → Paired R xs ys → Paired R us vs → Paired R (xs ++ us) (ys ++ vs)
+pub paired_append : {A : Type 0} {R : A → A → Type 0} {xs ys us vs : List A} → Paired R xs ys → Paired R us vs → Paired R (xs ++ us) (ys ++ vs)
 paired_append none q = q
 paired_append (more x y xs ys r p) q = more x y _ _ r (paired_append p q)
 
@@ -151,7 +151,7 @@ at_most_one_pair {A} x none e = ([], refl, subst (λ (w : List A). Reordered w [
 at_most_one_pair {A} x (more u v _ _ r none) e = (v, refl, subst (λ (w : List A). Reordered w v) (same_Some u x e) r)
 at_most_one_pair x (more u v _ _ r (more y z us vs s p)) e = absurd cc
 
-each_pair : {A B : Type 0} {R : A → A → Type 0} (f : A → Option B) {xs ys : List A} → ((x y : A) → R x y → f x ≡ f y) → Paired R xs ys → each f xs ≡ each f ys
+pub each_pair : {A B : Type 0} {R : A → A → Type 0} (f : A → Option B) {xs ys : List A} → ((x y : A) → R x y → f x ≡ f y) → Paired R xs ys → each f xs ≡ each f ys
 each_pair f h none = refl
 each_pair {A} {B} f h (more x y xs ys r p) = ap₂ (λ (o : Option B) (q : Option (List B)). o >>= λ u. q >>= λ us. Some (u ∷ us)) (h x y r) (each_pair f h p)
 

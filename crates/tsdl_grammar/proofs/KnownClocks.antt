@@ -3,7 +3,7 @@ use Rattle.std.proofs.Common.{◌≡◌, ℕ, Bool, true, not, ◌&&◌, List, [
 use mathlib.Core.Path.{fun_ext}
 use Rattle.std.specs.List.{list_any, list_all}
 use Rattle.ctf_types.specs.{declared.MemberType.MemberType, declared.StructType.StructType, declared.IntType.IntType}
-use Rattle.ctf_types.specs.Chain.{Leaf, Number, Labelled}
+use Rattle.ctf_types.specs.{Chain.{Leaf, Number, Labelled}, Packets.own_names, declared.limits.TheConstants.MAX_MEMBERS}
 use Rattle.tsdl_grammar.specs.{declared.tree.Value.Value, declared.tree.Attribute.Attribute, declared.tree.Kind.Kind, declared.tree.MemberTree.MemberTree}
 use Rattle.tsdl_grammar.specs.{declared.tree.Structure.Structure, declared.tree.Scope.Scope, declared.tree.Item.Item}
 use Rattle.tsdl_grammar.specs.declared.tree.Value.TheVariants as values
@@ -13,7 +13,7 @@ use Rattle.tsdl_grammar.specs.Lookups.{words_of, scope, scopes_in}
 use Rattle.tsdl_grammar.specs.IntegerMeaning.{Known, clock_in, clock_value, int_meaning}
 use Rattle.tsdl_grammar.specs.MemberMeaning.{kind_meaning, enum_meaning, bracketed, member_meaning}
 use Rattle.tsdl_grammar.specs.StructureMeaning.{has_member, members_meaning, align_of, align_with, struct_type, struct_meaning, structure_of, scope_meaning}
-use Rattle.tsdl_grammar.specs.BlockMeaning.{header_meaning, stream_meaning, event_meaning, packet_header, suits_header, packet_context, context_names, suits, event_header, event_context, specific_context, fields_scope}
+use Rattle.tsdl_grammar.specs.BlockMeaning.{header_meaning, stream_meaning, event_meaning, packet_header, suits_header, packet_context, suits, event_header, event_context, specific_context, fields_scope}
 
 -- the same byte order, and clocks of the same names
 pub record KnowSame (k l : Known) : Type 0 where
@@ -55,7 +55,7 @@ module _ (k l : Known) (same : KnowSame k l) where
   struct_alike : (s : Structure) → struct_meaning k s ≡ struct_meaning l s
   unfolding struct_meaning
   struct_alike s =
-      ap (λ (o : Option (List (List ℕ × MemberType))). provided (nat_le (length s.members) 1024) o >>= λ members. align_of s.align >>= λ align. struct_type members (align_with members align)) (members_alike [] s.members)
+      ap (λ (o : Option (List (List ℕ × MemberType))). provided (nat_le (length s.members) MAX_MEMBERS) o >>= λ members. align_of s.align >>= λ align. struct_type members (align_with members align)) (members_alike [] s.members)
 
   structure_alike : (o : Option Structure) → structure_of k o ≡ structure_of l o
   structure_alike None = refl
@@ -71,7 +71,7 @@ module _ (k l : Known) (same : KnowSame k l) where
   pub stream_alike : (is : List Item) → stream_meaning k is ≡ stream_meaning l is
   unfolding stream_meaning
   stream_alike is =
-      rw (scope_alike packet_context (suits context_names) (scopes_in is), scope_alike event_header (suits (codes "id" ∷ [])) (scopes_in is), scope_alike event_context (λ m. true) (scopes_in is)) refl
+      rw (scope_alike packet_context (suits own_names) (scopes_in is), scope_alike event_header (suits (codes "id" ∷ [])) (scopes_in is), scope_alike event_context (λ m. true) (scopes_in is)) refl
 
   pub event_alike : (is : List Item) → event_meaning k is ≡ event_meaning l is
   unfolding event_meaning

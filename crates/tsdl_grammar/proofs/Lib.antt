@@ -6,6 +6,7 @@ pub mod AtomsAhead
 pub mod Runs
 pub mod WordStands
 pub mod NumberStands
+pub mod FirstCharacter
 pub mod Escaping
 pub mod EscapesUtf8
 pub mod TextStands
@@ -21,4 +22,5 @@ pub mod BlockParts
 pub mod KnownClocks
 pub mod BlockOrder
 pub mod ItemOrder
+pub mod FieldOrder
 pub mod LengthParts

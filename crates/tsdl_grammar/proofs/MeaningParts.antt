@@ -2,7 +2,7 @@
 use Rattle.std.proofs.Common.{◌≡◌, ℕ, Bool, true, false, List, [], length, Some, None, refl, sym, ap, subst, ◌∙◌, nat_le, codes, flat_map, bytes_eq}
 use Rattle.std.proofs.lemmas.Option.{same_Some}
 use Rattle.ctf_types.specs.{declared.Base.TheVariants.Dec, declared.IntType.IntType, declared.StructType.StructType, declared.MemberType.MemberType}
-use Rattle.ctf_types.specs.declared.Metadata.{Metadata}
+use Rattle.ctf_types.specs.{declared.Metadata.Metadata, declared.limits.TheConstants.MAX_MEMBERS}
 use Rattle.tsdl_grammar.specs.{declared.tree.Attribute.Attribute, declared.tree.Structure.Structure, declared.tree.Block.Block}
 use Rattle.tsdl_grammar.specs.Steps.{◌>>=◌, provided, only, at_most_one, each}
 use Rattle.tsdl_grammar.specs.Lookups.{attr, no_two}
@@ -42,8 +42,8 @@ size_needed known attrs h = rw h (elim (has_only int_attrs attrs) as (λ b. prov
 pub says_structure : (known : Known) (s : Structure) (t : StructType) → struct_meaning known s ≡ Some t → SaysStructure known s t
 unfolding struct_meaning
 says_structure known s t e =
-    let a = bind_some (provided (nat_le (length s.members) 1024) (members_meaning known [] s.members)) (λ members. align_of s.align >>= λ align. struct_type members (align_with members align)) t e in
-    let g = provided_some (nat_le (length s.members) 1024) (members_meaning known [] s.members) a.0 a.1 in
+    let a = bind_some (provided (nat_le (length s.members) MAX_MEMBERS) (members_meaning known [] s.members)) (λ members. align_of s.align >>= λ align. struct_type members (align_with members align)) t e in
+    let g = provided_some (nat_le (length s.members) MAX_MEMBERS) (members_meaning known [] s.members) a.0 a.1 in
     let b = bind_some (align_of s.align) (λ align. struct_type a.0 (align_with a.0 align)) t a.2 in
     let p = struct_type-parts a.0 (align_with a.0 b.0) t b.2 in
     record {

@@ -7,7 +7,7 @@ use Rattle.ctf_types.specs.{declared.MemberType.MemberType, declared.MemberType.
 use Rattle.ctf_types.specs.{declared.EnvironmentEntry.EnvironmentEntry, declared.EnvironmentValue.EnvironmentValue, declared.Stream.Stream}
 use Rattle.ctf_types.specs.declared.Event.{Event}
 use Rattle.ctf_types.specs.declared.EnvironmentValue.TheVariants as environment
-use Rattle.ctf_types.specs.Chain.{Leaf, Number}
+use Rattle.ctf_types.specs.{Chain.{Leaf, Number}, Packets.own_names, declared.limits.TheConstants.MAX_ENVIRONMENT}
 use Rattle.tsdl_grammar.specs.{declared.tree.Attribute.Attribute, declared.tree.Item.Item, declared.tree.Fact.Fact, declared.tree.NamedFact.NamedFact}
 use Rattle.tsdl_grammar.specs.declared.tree.Fact.TheVariants as facts
 use Rattle.tsdl_grammar.specs.{IntegerMeaning.Known, MemberMeaning.is_unsigned, StructureMeaning.{scope_meaning, has_member}}
@@ -99,12 +99,6 @@ event_header = codes "event" ∷ codes "header" ∷ []
 abbrev pub event_context : List (List ℕ)
 event_context = codes "event" ∷ codes "context" ∷ []
 
--- the names that a packet context gives a meaning (CTF 1.8.3, section 5.2)
-abbrev pub context_names : List (List ℕ)
-context_names =
-    codes "packet_size" ∷ codes "content_size" ∷ codes "timestamp_begin" ∷ codes "timestamp_end"
-    ∷ codes "events_discarded" ∷ codes "packet_seq_num" ∷ []
-
 -- a member whose name has a meaning is an unsigned integer
 abbrev pub suits : List (List ℕ) → List ℕ × MemberType → Bool
 suits names m = not (list_any (bytes_eq m.0) names) || is_unsigned m.1
@@ -114,7 +108,7 @@ unfoldable pub stream_meaning : Known → List Item → Option Stream
 stream_meaning known is = let attrs = attrs_in is in let scopes = scopes_in is in
     provided (has_parts (packet_context ∷ event_header ∷ event_context ∷ []) is) (do
       id ← number_or_zero (codes "id") attrs
-      context ← scope_meaning known packet_context (suits context_names) scopes
+      context ← scope_meaning known packet_context (suits own_names) scopes
       header ← scope_meaning known event_header (suits (codes "id" ∷ [])) scopes
       common ← scope_meaning known event_context (λ m. true) scopes
       provided (has_member (codes "packet_size") context.members && has_member (codes "content_size") context.members)
@@ -145,6 +139,6 @@ fact_meaning (facts.Text s) = Some (environment.Text s)
 abbrev pub named_fact_meaning : NamedFact → Option EnvironmentEntry
 named_fact_meaning f = option_map (λ value. record { name = f.name; value = value }) (fact_meaning f.fact)
 
--- at most 256 names, of which none stands twice
+-- no more names than the limit, of which none stands twice
 unfoldable pub environment_meaning : List NamedFact → Option (List EnvironmentEntry)
-environment_meaning fs = provided (nat_le (length fs) 256 && no_two bytes_eq (map (λ f. f.name) fs)) (each named_fact_meaning fs)
+environment_meaning fs = provided (nat_le (length fs) MAX_ENVIRONMENT && no_two bytes_eq (map (λ f. f.name) fs)) (each named_fact_meaning fs)

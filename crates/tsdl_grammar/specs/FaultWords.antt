@@ -1,9 +1,8 @@
 -- Faults of a metadata text in words: where they stand, what stands there, and what is wrong.
-use Rattle.std.specs.Prelude.{◌≡◌, ◌≤◌, ◌<◌, ℕ, List, [], ◌++◌, length, take, drop, codes, IfSome, string_bytes, decimal}
-use Rattle.std.specs.{Fmt.debug_str, Option.option_map_or, Str.Lossy.utf8_lossy}
+use Rattle.std.specs.Prelude.{◌≡◌, ◌≤◌, ◌<◌, ℕ, List, [], ◌++◌, length, take, drop, None, codes, IfSome, string_bytes, decimal}
 use Rattle.tsdl_grammar.specs.declared.fault.MetaFaultKind.{MetaFaultKind}
 use Rattle.tsdl_grammar.specs.declared.fault.MetaFaultKind.TheVariants as faults
-use Rattle.tsdl_grammar.specs.{Pieces.piece_at, Positions.{line_after, column_after}}
+use Rattle.tsdl_grammar.specs.{Pieces.piece_at, Positions.{line_after, column_after}, WrongCharacters.{IsQuoted, IsWrongCharacter}}
 
 -- what is wrong, by the kind of the fault
 abbrev pub kind_words : MetaFaultKind → List ℕ
@@ -17,19 +16,12 @@ kind_words faults.BadLength = codes "expected the name of an unsigned integer me
 kind_words faults.Limit = codes "this passes a limit"
 kind_words faults.OutOfMemory = codes "out of memory"
 
--- the piece at the front of some bytes, or the byte that begins none
-abbrev pub first_piece : List ℕ → List ℕ
-first_piece bytes = take (option_map_or (λ cut. cut.len) (piece_at bytes) 1) bytes
-
--- the piece in quotes, where it is ASCII
-abbrev pub IsQuoted : List ℕ → List ℕ → Type 0
-IsQuoted piece found = IfSome (debug_str (utf8_lossy piece)) (λ quoted. found ≡ quoted)
-
 -- what is said to stand at the front of some bytes: the end of the text where there are none, and else their first piece, all of it where it has at
--- most 40 bytes
+-- most 40 bytes, or the character at which none begins
 pub record IsSaidOf (bytes found : List ℕ) : Type 0 where
   pub ending : bytes ≡ [] → found ≡ codes "the end of the text"
-  pub piece : 0 < length bytes → length (first_piece bytes) ≤ 40 → IsQuoted (first_piece bytes) found
+  pub piece : IfSome (piece_at bytes) (λ cut. cut.len ≤ 40 → IsQuoted (take cut.len bytes) found)
+  pub wrong : 0 < length bytes → piece_at bytes ≡ None → IsWrongCharacter bytes found
 
 -- what is said of a byte of a text, or of its end: its number, its line and its column, and what stands there
 pub record IsFoundAt (text : List ℕ) (at : ℕ) (said : List ℕ) : Type 0 where

@@ -1,11 +1,12 @@
 -- What `integer { .. }` means (CTF 1.8.3, section 4.1.5): its size is needed, from 1 to 64 bits; its alignment is a power of two
--- up to 4,096 bits, by default 8 where the size is a multiple of 8, else 1; it is unsigned and decimal by default; a mapped
+-- up to the largest one, by default 8 where the size is a multiple of 8, else 1; it is unsigned and decimal by default; a mapped
 -- integer names a clock of the text. An integer has the trace's byte order. Its encoding is passed over, and it has no other attribute.
 use Rattle.std.specs.Prelude.{ℕ, ◌%◌, Bool, false, ◌&&◌, ◌==◌, nat_lt, nat_le, if◌then◌else◌, List, [], ◌∷◌, Option, Some, None, codes, bytes_eq}
 use Rattle.std.specs.List.{list_all, list_any}
 use Rattle.std.proofs.lemmas.Bool.{ltb-true, leb-true, eqb-true}
 use Rattle.ctf_types.specs.{declared.ByteOrder.ByteOrder, declared.ByteOrder.TheVariants.{Little, Big}, declared.Base.Base}
 use Rattle.ctf_types.specs.{declared.Base.TheVariants.{Bin, Oct, Dec, Hex}, declared.IntType.IntType}
+use Rattle.ctf_types.specs.declared.limits.TheConstants.{LARGEST_ALIGN}
 use Rattle.tsdl_grammar.specs.{declared.tree.Value.Value, declared.tree.Attribute.Attribute}
 use Rattle.tsdl_grammar.specs.declared.tree.Value.TheVariants as values
 use Rattle.tsdl_grammar.specs.Steps.{◌>>=◌, provided, proved}
@@ -20,7 +21,7 @@ pub record Known : Type 0 where
 -- the integer type of these parts, where its size and alignment are in range
 unfoldable pub int_type : ℕ → ℕ → Bool → Base → Option (List ℕ) → Option IntType
 int_type size align signed base clock =
-    proved (nat_lt 0 size) (λ some. proved (nat_le size 64) (λ at_most. proved (nat_lt 0 align) (λ positive. proved (4096 % align == 0) (λ power.
+    proved (nat_lt 0 size) (λ some. proved (nat_le size 64) (λ at_most. proved (nat_lt 0 align) (λ positive. proved (LARGEST_ALIGN % align == 0) (λ power.
     Some (record {
       size = size;
       align = align;
@@ -30,7 +31,7 @@ int_type size align signed base clock =
       not_empty = ltb-true 0 size some;
       at_most_64 = leb-true size 64 at_most;
       positive = ltb-true 0 align positive;
-      power_of_two = eqb-true (4096 % align) 0 power;
+      power_of_two = eqb-true (LARGEST_ALIGN % align) 0 power;
     })))))
 
 -- 8 where the size is a multiple of 8, else 1

@@ -2,6 +2,7 @@
 use Rattle.std.specs.Prelude.{◌≡◌, ℕ, ◌<◌, true, false, ◌&&◌, nat_le, List, [], ◌∷◌, length, map, slice_index_or, Some, IsTrue, pos, codes, flat_map, bytes_eq}
 use Rattle.ctf_types.specs.{declared.Base.TheVariants.Dec, declared.IntType.IntType, declared.MemberType.MemberType, declared.StructType.StructType}
 use Rattle.ctf_types.specs.{declared.ClockType.ClockType, declared.Metadata.Metadata, declared.Stream.Stream, declared.Event.Event}
+use Rattle.ctf_types.specs.{Packets.own_names, declared.limits.TheConstants.MAX_MEMBERS}
 use Rattle.tsdl_grammar.specs.{declared.tree.Attribute.Attribute, declared.tree.Structure.Structure, declared.tree.Item.Item, declared.tree.Block.Block}
 use Rattle.tsdl_grammar.specs.Steps.{◌>>=◌, only, at_most_one, each}
 use Rattle.tsdl_grammar.specs.Lookups.{attr, attrs_in, scopes_in, has_parts, no_two}
@@ -9,7 +10,7 @@ use Rattle.tsdl_grammar.specs.AttributeValues.{natural_value, whole_value, text_
 use Rattle.tsdl_grammar.specs.IntegerMeaning.{Known, default_align, base_value, clock_value, int_attrs, has_only}
 use Rattle.tsdl_grammar.specs.MemberMeaning.{is_unsigned}
 use Rattle.tsdl_grammar.specs.StructureMeaning.{members_meaning, align_of, align_with, scope_meaning, has_member}
-use Rattle.tsdl_grammar.specs.BlockMeaning.{is_trace, trace_order, trace_uuid, header_meaning, clock_meaning, environment_meaning, packet_context, event_header, event_context, context_names, suits, specific_context, fields_scope}
+use Rattle.tsdl_grammar.specs.BlockMeaning.{is_trace, trace_order, trace_uuid, header_meaning, clock_meaning, environment_meaning, packet_context, event_header, event_context, suits, specific_context, fields_scope}
 use Rattle.tsdl_grammar.specs.Denotes.{trace_in, stream_in, event_in, clock_in, environment_in, known_of, streams_meaning}
 
 -- the attributes of an integer say its parts: the size is there, each other one has its default, and none stands twice
@@ -37,7 +38,7 @@ pub record SaysClock (is : List Item) (c : ClockType) : Type 0 where
 pub record SaysStream (known : Known) (is : List Item) (s : Stream) : Type 0 where
   pub once : has_parts (packet_context ∷ event_header ∷ event_context ∷ []) is ≡ true
   pub id : with_default 0 natural_value (attr (codes "id") (attrs_in is)) ≡ Some s.id
-  pub context : scope_meaning known packet_context (suits context_names) (scopes_in is) ≡ Some s.context
+  pub context : scope_meaning known packet_context (suits own_names) (scopes_in is) ≡ Some s.context
   pub header : scope_meaning known event_header (suits (codes "id" ∷ [])) (scopes_in is) ≡ Some s.event_header
   pub common : scope_meaning known event_context (λ m. true) (scopes_in is) ≡ Some s.common
   pub sizes : (has_member (codes "packet_size") s.context.members && has_member (codes "content_size") s.context.members) ≡ true
@@ -52,9 +53,9 @@ pub record SaysEvent (known : Known) (is : List Item) (stream : ℕ) (e : Event)
   pub specific : scope_meaning known specific_context (λ m. true) (scopes_in is) ≡ Some e.specific
   pub fields : scope_meaning known fields_scope (λ m. true) (scopes_in is) ≡ Some e.fields
 
--- a structure says its members, at most 1,024, and its minimum alignment
+-- a structure says its members, no more than the limit, and its minimum alignment
 pub record SaysStructure (known : Known) (s : Structure) (t : StructType) : Type 0 where
-  pub few : IsTrue (nat_le (length s.members) 1024)
+  pub few : IsTrue (nat_le (length s.members) MAX_MEMBERS)
   pub members : members_meaning known [] s.members ≡ Some t.members
   pub align : (align_of s.align >>= λ align. Some (align_with t.members align)) ≡ Some t.min_align
 

@@ -15,6 +15,8 @@ pub mod StructureMeaning
 pub mod BlockMeaning
 pub mod Denotes
 pub mod Orders
+pub mod FieldOrders
 pub mod Laws
 pub mod Positions
+pub mod WrongCharacters
 pub mod FaultWords

@@ -1,12 +1,13 @@
 -- What a member means (CTF 1.8.3, sections 4.1.8, 4.2.3 to 4.2.5): an integer, an enumeration or a string, in as many arrays as it has
 -- brackets, of which the first is the outermost. A name in the first bracket makes it a sequence: it names an unsigned integer member
 -- that stands before, and the sequence's elements have bits.
-use Rattle.std.specs.Prelude.{ℕ, ◌*◌, ◌^◌, max, Bool, true, false, not, ◌&&◌, nat_lt, nat_le, List, [], ◌∷◌, length, Option, Some, None, ℤ, int_le, codes, position, bytes_eq, option_map}
+use Rattle.std.specs.Prelude.{ℕ, ◌*◌, max, Bool, true, false, not, ◌&&◌, nat_lt, nat_le, List, [], ◌∷◌, length, Option, Some, None, ℤ, int_le, codes, position, bytes_eq, option_map}
 use Rattle.std.specs.List.{list_all}
 use Rattle.ctf_types.specs.{declared.IntType.IntType, declared.EnumType.EnumType, declared.Mapping.Mapping, declared.FieldType.FieldType}
 use Rattle.ctf_types.specs.{declared.FieldType.TheVariants.{Int, Enum, Str, Static}, declared.MemberType.MemberType}
 use Rattle.ctf_types.specs.{declared.MemberType.TheVariants.{Plain, Dyn}, declared.Length.TheVariants.At}
 use Rattle.ctf_types.specs.Chain.{Leaf, Number, Labelled, ByteString}
+use Rattle.ctf_types.specs.declared.limits.TheConstants.{MAX_ARRAYS, MAX_ELEMENTS, MAX_RANGES}
 use Rattle.tsdl_grammar.specs.{declared.tree.Value.Value, declared.tree.Attribute.Attribute, declared.tree.Label.Label}
 use Rattle.tsdl_grammar.specs.{declared.tree.Label.TheVariants.{Quoted, Bare}, declared.tree.Entry.Entry, declared.tree.Entries.Entries}
 use Rattle.tsdl_grammar.specs.{declared.tree.Kind.Kind, declared.tree.Bracket.Bracket, declared.tree.MemberTree.MemberTree}
@@ -38,10 +39,10 @@ abbrev pub entries_of : Entries → List Entry
 entries_of entries.Empty = []
 entries_of (entries.Listed e es closing) = e ∷ es
 
--- at most 65,536 ranges
+-- no more ranges than the limit
 unfoldable pub enum_meaning : IntType → Entries → Option EnumType
 enum_meaning int es = do
-  mappings ← provided (nat_le (length (entries_of es)) 65536) (each entry_meaning (entries_of es))
+  mappings ← provided (nat_le (length (entries_of es)) MAX_RANGES) (each entry_meaning (entries_of es))
   Some (record { int = int; mappings = mappings })
 
 abbrev pub encoding_words : List (List ℕ × Bool)
@@ -80,9 +81,9 @@ abbrev pub elements_of : List ℕ → ℕ
 elements_of [] = 1
 elements_of (n ∷ ns) = max 1 n * elements_of ns
 
--- at most 8 static arrays in one another, of at most 2^20 elements
+-- static arrays in one another, no deeper and of no more elements than the limits
 abbrev pub are_lengths : List ℕ → Bool
-are_lengths ns = nat_le (length ns) 8 && nat_le (elements_of ns) (2 ^ 20)
+are_lengths ns = nat_le (length ns) MAX_ARRAYS && nat_le (elements_of ns) MAX_ELEMENTS
 
 abbrev pub count_of : Bracket → Option ℕ
 count_of (brackets.Count n) = natural n

@@ -1,9 +1,10 @@
--- What a structure means (CTF 1.8.3, section 4.2.1): its members in order, at most 1,024 and no two of one name, and its minimum
--- alignment, 1 by default. A structure without members is not there, and has the minimum alignment 1.
+-- What a structure means (CTF 1.8.3, section 4.2.1): its members in order, no more than the limit and no two of one name, and its
+-- minimum alignment, 1 by default. A structure without members is not there, and has the minimum alignment 1.
 use Rattle.std.specs.Prelude.{ℕ, ◌%◌, Bool, not, ◌&&◌, ◌==◌, nat_lt, nat_le, List, [], ◌∷◌, ◌++◌, length, Option, Some, None, bytes_eq}
 use Rattle.std.specs.List.{list_any, list_all}
 use Rattle.std.proofs.lemmas.Bool.{ltb-true, eqb-true}
 use Rattle.ctf_types.specs.{declared.MemberType.MemberType, declared.StructType.StructType}
+use Rattle.ctf_types.specs.declared.limits.TheConstants.{LARGEST_ALIGN, MAX_MEMBERS}
 use Rattle.tsdl_grammar.specs.{declared.tree.Number.Number, declared.tree.MemberTree.MemberTree, declared.tree.Structure.Structure, declared.tree.Scope.Scope}
 use Rattle.tsdl_grammar.specs.{Lookups.scope, AttributeValues.natural, IntegerMeaning.Known, MemberMeaning.member_meaning}
 use Rattle.tsdl_grammar.specs.Steps.{◌>>=◌, provided, proved}
@@ -11,8 +12,8 @@ use Rattle.tsdl_grammar.specs.Steps.{◌>>=◌, provided, proved}
 -- the structure type of these parts, where its alignment is one
 unfoldable pub struct_type : List (List ℕ × MemberType) → ℕ → Option StructType
 struct_type members align =
-    proved (nat_lt 0 align) (λ positive. proved (4096 % align == 0) (λ power.
-    Some (record { members = members; min_align = align; positive = ltb-true 0 align positive; power_of_two = eqb-true (4096 % align) 0 power })))
+    proved (nat_lt 0 align) (λ positive. proved (LARGEST_ALIGN % align == 0) (λ power.
+    Some (record { members = members; min_align = align; positive = ltb-true 0 align positive; power_of_two = eqb-true (LARGEST_ALIGN % align) 0 power })))
 
 -- a member of this name is there
 abbrev pub has_member : List ℕ → List (List ℕ × MemberType) → Bool
@@ -27,7 +28,7 @@ members_meaning known before (m ∷ ms) = do
 
 abbrev pub align_of : Option Number → Option ℕ
 align_of None = Some 1
-align_of (Some n) = natural n >>= λ align. provided (nat_lt 0 align && (4096 % align == 0)) (Some align)
+align_of (Some n) = natural n >>= λ align. provided (nat_lt 0 align && (LARGEST_ALIGN % align == 0)) (Some align)
 
 -- no members, no alignment
 abbrev pub align_with : List (List ℕ × MemberType) → ℕ → ℕ
@@ -36,7 +37,7 @@ align_with (m ∷ ms) align = align
 
 unfoldable pub struct_meaning : Known → Structure → Option StructType
 struct_meaning known s = do
-  members ← provided (nat_le (length s.members) 1024) (members_meaning known [] s.members)
+  members ← provided (nat_le (length s.members) MAX_MEMBERS) (members_meaning known [] s.members)
   align ← align_of s.align
   struct_type members (align_with members align)
 

@@ -7,11 +7,12 @@ ghost use Rattle.ctf_types.specs.{declared.IntType.IntType, declared.Length.TheV
 ghost use Rattle.ctf_types.specs.{declared.MemberType.TheVariants.Dyn, declared.Metadata.Metadata, declared.Stream.Stream, declared.StructType.StructType};
 ghost use Rattle.tsdl_grammar.specs.{declared.token.Token.Token, declared.tree.Attribute.Attribute, declared.tree.Block.Block, declared.tree.Item.Item};
 ghost use Rattle.tsdl_grammar.specs.{declared.tree.MemberTree.MemberTree, declared.tree.Structure.Structure};
-ghost use Rattle.tsdl_grammar.specs.{Denotes.text_meta, Escapes.{escaped, unescaped}, Literals.literal_of, Lookups.attr, MemberMeaning.member_meaning};
+ghost use Rattle.tsdl_grammar.specs.{Denotes.text_meta, Escapes.{escaped, unescaped}, Literals.literal_of, Lookups.attr, MemberMeaning.{member_meaning, text_meaning}};
 ghost use Rattle.tsdl_grammar.specs.{StructureMeaning.struct_meaning, Tokens.{StopsAt, Tokenizes}};
 ghost use Rattle.tsdl_grammar.specs.IntegerMeaning.{Known, default_align, int_meaning};
 ghost use Rattle.tsdl_grammar.specs.BlockMeaning.{clock_meaning, stream_meaning, event_meaning};
 ghost use Rattle.tsdl_grammar.specs.Orders.{Reordered, SameItems, Paired, SameButClockOrder, SameButEnvironmentOrder};
+ghost use Rattle.tsdl_grammar.specs.FieldOrders.{SameFields};
 ghost use Rattle.tsdl_grammar.specs.Laws.{SaysInteger, SaysStructure, SaysClock, SaysStream, SaysEvent, SaysMetadata, SameBlocks, NamesLength, NumbersRise};
 
 /// A text has one list of tokens.
@@ -113,6 +114,14 @@ pub fn blocks_stand_in_any_order()
 /// same metadata, but for the order of the environment, which is the text's.
 pub fn items_stand_in_any_order()
     ensures { (bs cs : List Block) (m : Metadata) → Paired SameItems bs cs → text_meta bs ≡ Some m → (n : Metadata) × (text_meta cs ≡ Some n) × SameButEnvironmentOrder m n }
+{}
+
+/// The attributes of an integer, and of a string, stand in any order in its braces: in another order it means the same, and so
+/// does the text.
+pub fn attributes_of_fields_stand_in_any_order()
+    ensures integers { (known : Known) (attrs others : List Attribute) → Reordered attrs others → int_meaning known attrs ≡ int_meaning known others }
+    ensures strings { (attrs others : List Attribute) → Reordered attrs others → text_meaning (Some attrs) ≡ text_meaning (Some others) }
+    ensures texts { (bs cs : List Block) → Paired SameFields bs cs → text_meta bs ≡ text_meta cs }
 {}
 
 /// The streams of the metadata stand by number, no two of one number, and so do the events of each stream.

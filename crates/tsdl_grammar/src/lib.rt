@@ -12,17 +12,19 @@ mod position;
 mod token;
 mod tokenizer;
 mod tree;
+mod wrong_character;
 
 pub use atom::{Atom, atom_at, atoms};
 pub use escapes::{escape, escaped_byte, unescape};
 pub use fault::{MetaFault, MetaFaultKind};
 pub use front::{Atoms, Front, atom_count, first_token};
 pub use laws::{
-    blocks_stand_in_any_order, clocks_say_their_parts, decimals_come_back, escapes_come_back,
-    escapes_keep_utf8, events_say_their_parts, integers_have_defaults, integers_need_a_size,
-    integers_say_their_parts, items_stand_in_any_order, kinds_of_blocks_mix,
-    sequences_name_their_length, streams_say_their_parts, streams_stand_by_number,
-    structures_say_their_parts, texts_say_their_parts, tokens_are_unique, tokens_or_a_stop,
+    attributes_of_fields_stand_in_any_order, blocks_stand_in_any_order, clocks_say_their_parts,
+    decimals_come_back, escapes_come_back, escapes_keep_utf8, events_say_their_parts,
+    integers_have_defaults, integers_need_a_size, integers_say_their_parts,
+    items_stand_in_any_order, kinds_of_blocks_mix, sequences_name_their_length,
+    streams_say_their_parts, streams_stand_by_number, structures_say_their_parts,
+    texts_say_their_parts, tokens_are_unique, tokens_or_a_stop,
 };
 pub use literal::literal_value;
 pub use piece::{Cut, Piece};

@@ -1,15 +1,14 @@
 //! Faults of a metadata text as people read them: with line, column and what stands there.
 
 ghost use Rattle.std.specs.Prelude.{◌≡◌, ◌≤◌, length, take, min, IfOk, string_bytes};
-ghost use Rattle.tsdl_grammar.specs.{FaultWords.{IsFoundAt, IsQuoted, IsSaidOf}, Positions.{column_after, line_after}};
+ghost use Rattle.tsdl_grammar.specs.{FaultWords.{IsFoundAt, IsSaidOf}, Positions.{column_after, line_after}};
 
 use crate::piece::piece_at;
+use crate::wrong_character::{LONGEST_CHARACTER, in_quotes, wrong_character};
 use std::alloc::{AllocError, Global};
 
 /// How many bytes of a text a message shows.
 const LONGEST_SHOWN: usize = 40;
-/// How many bytes a character has at most.
-const LONGEST_CHARACTER: usize = 4;
 
 /// A place in a text as editors count it, both from 1. A column counts bytes.
 #[derive(Clone, Copy, Debug, PartialEq, Eq)]
@@ -50,20 +49,16 @@ fn standing(alloc: Global, bytes: &[u8]) -> Result<String, AllocError>
     if bytes.is_empty() {
         return String::from_str(alloc, "the end of the text");
     }
-    let piece = &bytes[..piece_at(bytes).map_or(1, |cut| cut.len)];
+    let Some(cut) = piece_at(bytes) else {
+        return wrong_character(alloc, bytes);
+    };
+    let piece = &bytes[..cut.len];
     if piece.len() <= LONGEST_SHOWN {
         in_quotes(alloc, piece)
     } else {
         let front = in_quotes(alloc, front_of(piece))?;
         format!(in alloc; "{front}...")
     }
-}
-
-fn in_quotes(alloc: Global, bytes: &[u8]) -> Result<String, AllocError>
-    ensures { IfOk result (λ found. IsQuoted bytes.now (string_bytes found)) }
-{
-    let text = String::from_utf8_lossy(alloc, bytes)?;
-    format!(in alloc; "{text:?}")
 }
 
 /// What a message shows of a long piece: so much of its front that no character is cut.

@@ -1,10 +1,9 @@
 -- What a text means is metadata that the rules allow: its streams, and all of it.
 use Rattle.std.proofs.Common.{◌≡◌, ℕ, ◌<◌, true, false, IsTrue, List, ◌∷◌, map, All, Some, refl, sym, subst, arith, codes, nat_cmp, Less, ◌≤◌, ◌&&◌, length, []}
-use Rattle.tsdl_meaning.proofs.TextWords.{AllByRecursion, Block, Denotes, EnvironmentEntry, Event, IsDistinct, IsEvent, IsIdentity, IsMagic, IsMetadata, IsMetadataName, IsStream, IsUnsigned, Item, Known, MemberType, NamedFact, NumbersRise, Stream, and_true, at_most_one, bind_some, braced, block_and_semicolon, block_toks, by_number, by_number-rises, bytes_eq, clock_names, context_names, each, environment_in, environment_meaning, event_context, event_header, event_in, event_meaning, events_of, fields_scope, flat_map, has_member, have_streams, header_meaning, insert_numbered, is_unsigned_of, is_uuid, items_toks, known_of, leb-true, list_any, mark, named_fact_meaning, named_fact_toks, nat_cmp_is, nat_le, no_two, only, or_parts, packet_context, packet_header, provided, provided_some, some_same, specific_context, stream_in, stream_meaning, streams_meaning, suits, suits_header, text_meta, text_toks, trace_in, with_events, ◌>>=◌}
+use Rattle.tsdl_meaning.proofs.TextWords.{AllByRecursion, Block, Denotes, EnvironmentEntry, Event, IsDistinct, IsEvent, IsIdentity, IsMagic, IsMetadata, IsMetadataName, IsStream, IsUnsigned, Item, Known, MAX_ENVIRONMENT, MemberType, NamedFact, NumbersRise, Stream, and_true, at_most_one, bind_some, block_and_semicolon, block_toks, braced, by_number, by_number-rises, bytes_eq, clock_names, each, environment_in, environment_meaning, event_context, event_header, event_in, event_meaning, events_of, fields_scope, flat_map, has_member, have_streams, header_meaning, insert_numbered, is_unsigned_of, is_uuid, items_toks, known_of, leb-true, list_any, mark, named_fact_meaning, named_fact_toks, nat_cmp_is, nat_le, no_two, only, or_parts, own_names, packet_context, packet_header, provided, provided_some, some_same, specific_context, stream_in, stream_meaning, streams_meaning, suits, suits_header, text_meta, text_toks, trace_in, with_events, ◌>>=◌}
 use Rattle.std.specs.List.Sorted.{IsStrictlySortedBy}
 use Rattle.std.proofs.lemmas.Bool.Decides.{nat_tests}
 use Rattle.std.proofs.lemmas.List.Elements.{All-from_recursion}
-use Rattle.ctf_types.specs.Packets.{own_names}
 use Rattle.tsdl_grammar.proofs.BlockParts.{says_stream, says_event}
 use Rattle.tsdl_meaning.proofs.GoodAtoms.{AreGood, IsGood, all_front, good_atoms}
 use Rattle.tsdl_meaning.proofs.AllowedTypes.{each_keeps, all_spelled, inside, scope_allowed, unsigned, each_has, at_name}
@@ -59,7 +58,7 @@ abbrev IsHead : List (List ℕ) → Stream → Type 0
 IsHead clocks s =
     (es : List Event) → AllByRecursion (IsEvent clocks) es → NumbersRise (λ e. e.id) es → IsStream clocks (record s { events = es })
 
-own_unsigned : (m : List ℕ × MemberType) → suits context_names m ≡ true → IsTrue (list_any (bytes_eq m.0) own_names) → IsUnsigned m.1
+own_unsigned : (m : List ℕ × MemberType) → suits own_names m ≡ true → IsTrue (list_any (bytes_eq m.0) own_names) → IsUnsigned m.1
 own_unsigned m h own = unsigned m.1 (grind (arith, h, own))
 
 id_unsigned : (m : List ℕ × MemberType) → suits (codes "id" ∷ []) m ≡ true → bytes_eq m.0 (codes "id") ≡ true → IsUnsigned m.1
@@ -68,7 +67,7 @@ id_unsigned m h e = unsigned m.1 (at_name (suits (codes "id" ∷ [])) (codes "id
 head_allowed : (known : Known) (is : List Item) (s : Stream) → AreGood (items_toks is) → stream_meaning known is ≡ Some s → IsHead known.clocks s
 head_allowed known is s g h = λ es all rise.
     let says = says_stream known is s h in
-    let context = scope_allowed known packet_context (suits context_names) is s.context g says.context in
+    let context = scope_allowed known packet_context (suits own_names) is s.context g says.context in
     let header = scope_allowed known event_header (suits (codes "id" ∷ [])) is s.event_header g says.header in
     let sizes = and_true (has_member (codes "packet_size") s.context.members) (has_member (codes "content_size") s.context.members) says.sizes in
     record {
@@ -77,7 +76,7 @@ head_allowed known is s g h = λ es all rise.
       common = (scope_allowed known event_context (λ m. true) is s.common g says.common).0;
       events = All-from_recursion (IsEvent known.clocks) es all;
       event_numbers_rise = sorted (λ e. e.id) es rise;
-      own_are_unsigned = each_has (suits context_names) (λ m. IsTrue (list_any (bytes_eq m.0) own_names) → IsUnsigned m.1) own_unsigned s.context.members context.1;
+      own_are_unsigned = each_has (suits own_names) (λ m. IsTrue (list_any (bytes_eq m.0) own_names) → IsUnsigned m.1) own_unsigned s.context.members context.1;
       packet_size = (member_says (codes "packet_size") s.context.members).0 sizes.0;
       content_size = (member_says (codes "content_size") s.context.members).0 sizes.1;
       id = each_has (suits (codes "id" ∷ [])) (λ m. bytes_eq m.0 (codes "id") ≡ true → IsUnsigned m.1) id_unsigned s.event_header.members header.1;
@@ -157,19 +156,19 @@ fact_names (f ∷ fs) g = (g.0.0, fact_names fs g.1)
 record AllowedEnvironment (es : List EnvironmentEntry) : Type 0 where
   names : All IsMetadataName (map (λ e. e.name) es)
   once : IsDistinct bytes_eq (map (λ e. e.name) es)
-  few : length es ≤ 256
+  few : length es ≤ MAX_ENVIRONMENT
 
 environment_allowed : (fs : List NamedFact) (es : List EnvironmentEntry) → FactsGood fs → environment_meaning fs ≡ Some es → AllowedEnvironment es
 unfolding environment_meaning
 environment_allowed fs es g h =
-    let p = provided_some (nat_le (length fs) 256 && no_two bytes_eq (map (λ f. f.name) fs)) (each named_fact_meaning fs) es h in
-    let both = and_true (nat_le (length fs) 256) (no_two bytes_eq (map (λ f. f.name) fs)) p.0 in
+    let p = provided_some (nat_le (length fs) MAX_ENVIRONMENT && no_two bytes_eq (map (λ f. f.name) fs)) (each named_fact_meaning fs) es h in
+    let both = and_true (nat_le (length fs) MAX_ENVIRONMENT) (no_two bytes_eq (map (λ f. f.name) fs)) p.0 in
     let same = same_names fs es p.1 in
     let k = each_keeps named_fact_meaning (λ (f : NamedFact). AreGood (named_fact_toks f)) (λ (e : EnvironmentEntry). Unit {0}) (λ f e x y. tt) fs es g p.1 in
     record {
       names = subst (λ (ns : List (List ℕ)). All IsMetadataName ns) (sym same) (All-from_recursion IsMetadataName (map (λ f. f.name) fs) (fact_names fs g));
       once = subst (IsDistinct bytes_eq) (sym same) (distinct (map (λ f. f.name) fs) both.1);
-      few = omega (arith, leb-true (length fs) 256 both.0, k.1);
+      few = omega (arith, leb-true (length fs) MAX_ENVIRONMENT both.0, k.1);
     }
 
 -- ---- the packet header

@@ -1,6 +1,6 @@
 -- Types and structures that a metadata text means are those that the rules allow.
 use Rattle.std.proofs.Common.{◌≡◌, ℕ, suc, ◌-◌, ◌<◌, ◌≤◌, ◌^◌, ℤ, pos, negsuc, ◌≤ℤ◌, Bool, true, false, ◌&&◌, List, ◌∷◌, ◌++◌, length, slice_get, All, Option, Some, None, refl, sym, ap, subst, ◌∙◌, arith, codes, not, append-nil, append_assoc, []}
-use Rattle.tsdl_meaning.proofs.TextWords.{AllByRecursion, AreMembers, Atom, Attribute, Bracket, ByteString, Chain, Dyn, Entries, Entry, HasBits, IsCount, IsDistinct, IsField, IsLeaf, IsMappedTo, IsMember, IsMetadataName, IsNest, IsRange, IsStruct, IsUnsigned, Item, Kind, Known, Labelled, Leaf, MemberTree, MemberType, Plain, Scope, Str, StructType, Structure, Value, align_of, align_toks, align_with, and_true, are_lengths, arrays_of, bind_some, braced, bracket_toks, bracketed, bytes_eq, bytes_eq-Decides, clock_value, closing_toks, count_of, each, elements_of, entries_of, entries_toks, entry_meaning, entry_toks, enum_meaning, flat_map, has_member, high_of, high_toks, int_meaning, int_toks, is_unsigned, item_toks, items_toks, kind_meaning, kind_toks, label_toks, leb-true, length_place, list_all, list_any, ltb-true, map-append, map_some, mark, member_meaning, member_toks, members_meaning, name_toks, names_in, nat_le, nat_list_eq_equiv, nat_lt, next_entry_toks, not-true, number_toks, option_map, or_parts, provided, provided_some, scope, scope_meaning, scope_toks, scopes_in, sign_toks, signed_of, some_same, struct_meaning, struct_toks, struct_type, structure_of, text_meaning, word, ◌>>=◌}
+use Rattle.tsdl_meaning.proofs.TextWords.{AllByRecursion, AreMembers, Atom, Attribute, Bracket, ByteString, Chain, Dyn, Entries, Entry, HasBits, IsCount, IsDistinct, IsField, IsLeaf, IsMappedTo, IsMember, IsMetadataName, IsNest, IsRange, IsStruct, IsUnsigned, Item, Kind, Known, Labelled, Leaf, MAX_MEMBERS, MAX_RANGES, MemberTree, MemberType, Plain, Scope, Str, StructType, Structure, Value, align_of, align_toks, align_with, and_true, are_lengths, arrays_of, bind_some, braced, bracket_toks, bracketed, bytes_eq, bytes_eq-Decides, clock_value, closing_toks, count_of, each, elements_of, entries_of, entries_toks, entry_meaning, entry_toks, enum_meaning, flat_map, has_member, high_of, high_toks, int_meaning, int_toks, is_unsigned, item_toks, items_toks, kind_meaning, kind_toks, label_toks, leb-true, length_place, list_all, list_any, ltb-true, map-append, map_some, mark, member_meaning, member_toks, members_meaning, name_toks, names_in, nat_le, nat_list_eq_equiv, nat_lt, next_entry_toks, not-true, number_toks, option_map, or_parts, provided, provided_some, scope, scope_meaning, scope_toks, scopes_in, sign_toks, signed_of, some_same, struct_meaning, struct_toks, struct_type, structure_of, text_meaning, word, ◌>>=◌}
 use Rattle.std.proofs.lemmas.Int.{ints}
 use Rattle.std.proofs.lemmas.Bool.Decides.{nat_tests}
 use Rattle.std.proofs.lemmas.List.Elements.{All-from_recursion, All-weaker}
@@ -77,10 +77,10 @@ entry_list (entries.Listed e es closing) g =
 enum_allowed : (clocks : List (List ℕ)) (int : IntType) (es : Entries) (t : EnumType) → IsMappedTo clocks int → AreGood (entries_toks es) → enum_meaning int es ≡ Some t → IsLeaf clocks (Labelled t)
 unfolding enum_meaning
 enum_allowed clocks int es t m g e =
-    let a = bind_some (provided (nat_le (length (entries_of es)) 65536) (each entry_meaning (entries_of es))) _ t e in
-    let p = provided_some (nat_le (length (entries_of es)) 65536) (each entry_meaning (entries_of es)) a.0 a.1 in
+    let a = bind_some (provided (nat_le (length (entries_of es)) MAX_RANGES) (each entry_meaning (entries_of es))) _ t e in
+    let p = provided_some (nat_le (length (entries_of es)) MAX_RANGES) (each entry_meaning (entries_of es)) a.0 a.1 in
     let k = each_keeps entry_meaning (λ (x : Entry). AreGood (entry_toks x)) IsRange in_range (entries_of es) a.0 (entry_list es g) p.1 in
-    let few : length a.0 ≤ 65536 = omega (arith, leb-true (length (entries_of es)) 65536 p.0, k.1) in
+    let few : length a.0 ≤ MAX_RANGES = omega (arith, leb-true (length (entries_of es)) MAX_RANGES p.0, k.1) in
     let made : EnumType = record { int = int; mappings = a.0 } in
     subst (λ (u : EnumType). IsLeaf clocks (Labelled u)) (some_same made t (Some made) refl a.2) (m, All-from_recursion IsRange a.0 k.0, few)
 
@@ -231,7 +231,7 @@ struct_allowed known s t g e =
       members = subst (AreMembers known.clocks []) (sym made.whole) made.types;
       names = subst (λ (ms : List (List ℕ × MemberType)). All IsMetadataName (names_in ms)) (sym made.whole) (All-from_recursion IsMetadataName (names_in made.more) made.names);
       distinct = made.distinct;
-      few = omega (arith, leb-true (length s.members) 1024 says.few, made.many, ap length made.whole);
+      few = omega (arith, leb-true (length s.members) MAX_MEMBERS says.few, made.many, ap length made.whole);
       empty = no_members t.members (align_of s.align) t.min_align says.align;
     }
 

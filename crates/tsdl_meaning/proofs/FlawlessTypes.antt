@@ -1,6 +1,6 @@
 -- What the kinds, the brackets and the members of a structure mean in which no flaw is found.
 use Rattle.std.proofs.Common.{◌≡◌, ℕ, ◌<◌, ◌%◌, ◌==◌, Bool, true, false, ◌&&◌, List, ◌∷◌, ◌++◌, length, Option, Some, None, IsSome, Bor, ℤ, refl, sym, ap, subst, ◌∙◌, arith, length-append, ◌*◌, ◌≤◌, max, inl, inr, []}
-use Rattle.tsdl_meaning.proofs.TextWords.{Adds, AddsAttribute, AreBrackets, AreRanges, Asked, Attribute, BTreeSet, Bracket, ByteOrder, Entries, Entry, Global, HaveNumbers, KeepsLimits, Known, Leaf, MemberTree, MemberType, NameLength, Number, ScopeRule, String, StructType, Structure, Value, align_of, align_with, and_from, and_true, are_distinct, are_lengths, attr, attr_names, base_value, bind_is, bracketed, bytes_eq, clock_value, codes, count_of, default_align, elements_of, encoding_value, entries_of, entry_meaning, enum_meaning, eqb-true, flag_value, has_member, has_only, high_of, int_attrs, int_le, int_meaning, is_alignment, is_among, is_size, is_some, kind_meaning, leb-true, length_place, list_all, list_any, ltb-true, member_meaning, members_meaning, nat_le, nat_lt, natural, natural_value, of_integer, of_string, option_map, option_map_or, order_value, own_asked, own_attrs, signed_of, string_attrs, struct_meaning, struct_type, suits_rule, text_meaning, tree_of, with_default, word_value, words_of}
+use Rattle.tsdl_meaning.proofs.TextWords.{Adds, AddsAttribute, AreBrackets, AreRanges, Asked, Attribute, BTreeSet, Bracket, ByteOrder, Entries, Entry, Global, HaveNumbers, KeepsLimits, Known, LARGEST_ALIGN, Leaf, MAX_ARRAYS, MAX_ELEMENTS, MAX_MEMBERS, MAX_RANGES, MemberTree, MemberType, NameLength, Number, ScopeRule, String, StructType, Structure, Value, align_of, align_with, and_from, and_true, are_distinct, are_lengths, attr, attr_names, base_value, bind_is, bracketed, bytes_eq, clock_value, codes, count_of, default_align, elements_of, encoding_value, entries_of, entry_meaning, enum_meaning, eqb-true, flag_value, has_member, has_only, high_of, int_attrs, int_le, int_meaning, is_alignment, is_among, is_size, is_some, kind_meaning, leb-true, length_place, list_all, list_any, ltb-true, member_meaning, members_meaning, nat_le, nat_lt, natural, natural_value, of_integer, of_string, option_map, option_map_or, order_value, own_asked, own_attrs, signed_of, string_attrs, struct_meaning, struct_type, suits_rule, text_meaning, tree_of, with_default, word_value, words_of}
 use Rattle.std.proofs.lemmas.Bool.Decides.{nat_tests}
 use Rattle.ctf_types.specs.declared.Base.TheVariants.{Dec}
 use Rattle.ctf_types.specs.declared.IntType.{IntType}
@@ -38,9 +38,9 @@ native_is order v e = grind (arith, e)
 
 -- ---- integers
 
--- a power of two up to 4,096
+-- a power of two up to the largest alignment
 abbrev is_power : ℕ → Bool
-is_power n = nat_lt 0 n && (4096 % n == 0)
+is_power n = nat_lt 0 n && (LARGEST_ALIGN % n == 0)
 
 align_range : (size align : ℕ) (o : Option Value) → ((v : Value) → o ≡ Some v → is_alignment v ≡ true) → with_default (default_align size) natural_value o ≡ Some align → is_power align ≡ true
 align_range size align None asks e = grind (arith, e)
@@ -57,7 +57,7 @@ integer_means known attrs names s there =
     let size = some_is (natural_value given.0) (there_of (λ n. nat_lt 0 n && nat_le n 64) (natural_value given.0) sized) in
     let range = and_true (nat_lt 0 size.0) (nat_le size.0 64) (passes_of (λ n. nat_lt 0 n && nat_le n 64) (natural_value given.0) size.0 sized size.1) in
     let align = default_is asked natural_value (codes "align") attrs all (λ v h. there_of is_power (natural_value v) h) (default_align size.0) in
-    let aligned = and_true (nat_lt 0 align.0) (4096 % align.0 == 0) (align_range size.0 align.0 (attr (codes "align") attrs) (λ v e. value_fits asked (codes "align") attrs v all e) align.1) in
+    let aligned = and_true (nat_lt 0 align.0) (LARGEST_ALIGN % align.0 == 0) (align_range size.0 align.0 (attr (codes "align") attrs) (λ v e. value_fits asked (codes "align") attrs v all e) align.1) in
     let signed = default_is asked flag_value (codes "signed") attrs all (λ v h. h) false in
     let order = default_is asked (order_value known.order) (codes "byte_order") attrs all (λ v h. h) known.order in
     let base = default_is asked base_value (codes "base") attrs all (λ v h. h) Dec in
@@ -71,7 +71,7 @@ integer_means known attrs names s there =
       not_empty = ltb-true 0 size.0 range.0;
       at_most_64 = leb-true size.0 64 range.1;
       positive = ltb-true 0 align.0 aligned.0;
-      power_of_two = eqb-true (4096 % align.0) 0 aligned.1;
+      power_of_two = eqb-true (LARGEST_ALIGN % align.0) 0 aligned.1;
     } in
     rw (only_these int_attrs asked attrs names s, given.1, size.1, align.1, signed.1, order.1, base.1, clock.1, int_type-own t) refl
 
@@ -82,7 +82,7 @@ unfolding kind_meaning enum_meaning
 ranges_mean known attrs es int ranges =
     let t = some_is (int_meaning known attrs) int in
     let n = ranges.few in
-    let few : nat_le (length (entries_of es)) 65536 ≡ true = grind (arith, nat_tests) in
+    let few : nat_le (length (entries_of es)) MAX_RANGES ≡ true = grind (arith, nat_tests) in
     rw (t.1, few, ranges.mean) refl
 
 pub int_means : (known : Known) (attrs : List Attribute) → IsSome (kind_meaning known (kinds.Integer attrs)) → IsSome (int_meaning known attrs)
@@ -130,7 +130,7 @@ first_range e meant =
     let m = some_is (entry_meaning e) meant in
     record { few = omega arith; mappings = m.0 ∷ []; mean = bind_is (entry_meaning e) (λ y. Some (y ∷ [])) m.0 (m.0 ∷ []) m.1 refl }
 
-pub range_more : (es : List Entry) (e : Entry) → AreRanges es → length es < 65536 → IsSome (entry_meaning e) → AreRanges (es ++ e ∷ [])
+pub range_more : (es : List Entry) (e : Entry) → AreRanges es → length es < MAX_RANGES → IsSome (entry_meaning e) → AreRanges (es ++ e ∷ [])
 range_more es e s few meant =
     let m = some_is (entry_meaning e) meant in
     let n = length-append es (e ∷ []) in
@@ -159,7 +159,7 @@ count_more before done old new number n s e keeps adds =
       counted = omega (arith, l, c, a);
       made = made;
       few = omega (arith, l, c, f);
-      small = subst (λ (k : ℕ). k ≤ 1048576) made small;
+      small = subst (λ (k : ℕ). k ≤ MAX_ELEMENTS) made small;
       shape = elim s.shape [
         | inl plain ↦ inl (adds.sequence ∙ plain.0, each_more count_of done s.numbers (brackets.Count number) n plain.1 e)
         | inr named ↦ inr (
@@ -217,7 +217,7 @@ lengths_of before done l s =
 
 -- ---- the type
 
-lengths_are : (ns : List ℕ) → length ns ≤ 8 → elements_of ns ≤ 1048576 → are_lengths ns ≡ true
+lengths_are : (ns : List ℕ) → length ns ≤ MAX_ARRAYS → elements_of ns ≤ MAX_ELEMENTS → are_lengths ns ≡ true
 lengths_are ns few small = grind (arith, nat_tests, few, small)
 
 arrays_mean : (before : List (List ℕ × MemberType)) (leaf : Leaf) (bs : List Bracket) (numbers : List ℕ) → HaveNumbers bs numbers → are_lengths numbers ≡ true → IsSome (bracketed before leaf bs)
@@ -248,7 +248,7 @@ member_means known before t kind arrays = let leaf = some_is (kind_meaning known
 
 -- these members have no flaw
 pub record AreFlawless (known : Known) (rule : ScopeRule) (trees : List MemberTree) (members : List (List ℕ × MemberType)) : Type 0 where
-  pub few : length members ≤ 1024
+  pub few : length members ≤ MAX_MEMBERS
   pub counted : length members ≡ length trees
   pub mean : members_meaning known [] trees ≡ Some members
   pub suit : list_all (suits_rule rule) members ≡ true
@@ -292,8 +292,8 @@ unfolding struct_meaning
 all_flawless known rule s members f is =
     let align = some_is (align_of s.align) is in
     let a = align_with members align.0 in
-    let r = and_true (nat_lt 0 a) (4096 % a == 0) (in_range members s.align align.0 align.1) in
-    let meant : StructType = record { members = members; min_align = a; positive = ltb-true 0 a r.0; power_of_two = eqb-true (4096 % a) 0 r.1 } in
+    let r = and_true (nat_lt 0 a) (LARGEST_ALIGN % a == 0) (in_range members s.align align.0 align.1) in
+    let meant : StructType = record { members = members; min_align = a; positive = ltb-true 0 a r.0; power_of_two = eqb-true (LARGEST_ALIGN % a) 0 r.1 } in
     let m = f.few in let n = f.counted in
-    let few : nat_le (length s.members) 1024 ≡ true = grind (arith, nat_tests) in
+    let few : nat_le (length s.members) MAX_MEMBERS ≡ true = grind (arith, nat_tests) in
     record { meant = meant; means = rw (few, f.mean) (bind_is (align_of s.align) (λ n. struct_type members (align_with members n)) align.0 meant align.1 (struct_type-own meant)); suit = f.suit }

@@ -1,6 +1,6 @@
 -- A stop in a part of a tree is a stop in the tree, and what a judge hands on from a part.
-use Rattle.std.proofs.Common.{◌≡◌, ℕ, suc, ◌+◌, ◌<◌, min, arith, Bool, true, false, ◌||◌, List, ◌∷◌, ◌++◌, length, take, drop, get_or, refl, sym, ap, ◌∙◌, subst, inl, inr, append_assoc, Result, Ok, Err, []}
-use Rattle.tsdl_meaning.proofs.TextWords.{Atom, Ends, HasLength, Holds, IfErr, IfOk, IsErrAnd, StandsBehind, Stop, StopsAmong, StopsIn, StopsWhere, append-nil, cases_Bool, flat_map, list_any, most, stops_after, stops_item}
+use Rattle.std.proofs.Common.{◌≡◌, ℕ, suc, ◌+◌, ◌<◌, min, arith, List, ◌++◌, length, take, drop, get_or, sym, ap, ◌∙◌, subst, append_assoc, Result, Ok, Err, []}
+use Rattle.tsdl_meaning.proofs.TextWords.{Atom, Ends, HasLength, Holds, IfErr, IfOk, IsErrAnd, StandsBehind, Stop, StopsAmong, StopsIn, StopsWhere, append-nil, flat_map, most, stops_after, stops_item}
 
 -- ---- answers
 
@@ -20,26 +20,6 @@ holds_more front more toks (before, behind, e) = (before, behind ++ more, ap (λ
 
 pub holds_last : (front toks : List Atom) → Holds (front ++ toks) toks
 holds_last front toks = (front, [], ap (λ (l : List Atom). front ++ l) (sym (append-nil toks)))
-
--- among the last atoms of a front
-pub holds_among : (front opening toks part : List Atom) → Ends front (opening ++ toks) → Holds toks part → Holds front part
-holds_among front opening toks part (others, e) (before, behind, h) =
-    (others ++ (opening ++ before), behind, e ∙ ap (λ (l : List Atom). others ++ (opening ++ l)) h ∙ simp append_assoc)
-
--- in a part of a front
-pub holds_part : (front toks part : List Atom) → Holds front toks → Holds toks part → Holds front part
-holds_part front toks part (before, behind, e) (pre, post, h) = (before ++ pre, post ++ behind, e ∙ ap (λ (l : List Atom). before ++ (l ++ behind)) h ∙ simp append_assoc)
-
--- an item that passes a test stands among the items
-pub item_there : {A : Type 0} (toks : A → List Atom) (test : A → Bool) (xs : List A) → list_any test xs ≡ true → (x : A) × (test x ≡ true) × Holds (flat_map toks xs) (toks x)
-item_there toks test [] e = absurd (let never : false ≡ true = e in cc)
-item_there toks test (x ∷ xs) e =
-    elim (cases_Bool (test x)) [
-      | inl t ↦ (x, t, ([], flat_map toks xs, refl))
-      | inr f ↦
-          let later = item_there toks test xs (ap (λ (b : Bool). b || list_any test xs) (sym f) ∙ e) in
-          (later.0, later.1, holds_among (toks x ++ flat_map toks xs) (toks x) (flat_map toks xs) (toks later.0) ([], refl) later.2)
-    ]
 
 -- behind a front that ends so, and more
 pub ends_more : (front toks more : List Atom) → Ends front toks → Ends (front ++ more) (toks ++ more)

@@ -1,5 +1,6 @@
 pub mod TextWords
 pub mod WordTables
+pub mod WorkedWords
 pub mod Fronts
 pub mod DistinctKeys
 pub mod ElementCounts

@@ -1,7 +1,7 @@
 -- Members by their names, structure types from their parts, and alignments.
 use Rattle.std.proofs.Common.{ap, ◌∙◌, ◌≡◌, ℕ, ◌<◌, List, ◌∷◌, length, Contains, Bool, true, false, ◌||◌, Decides, refl, sym, subst, inl, inr, arith, bytes_eq, Some, None, get_or, ◌↔◌, ◌%◌, ◌≤◌, Option, IsSome, IfSome, ◌==◌, ◌&&◌, []}
 use Rattle.std.proofs.lemmas.Map.Views.{Contains-from_any, list_any-from_Contains}
-use Rattle.tsdl_meaning.proofs.TextWords.{Atom, IsBehindAlign, IsLargeAlignment, IsPassed, MemberType, Number, StructType, align_of, bytes_eq-Decides, false≢true, has_member, is_some, names_in, nat_lt, natural, number_toks, position, position_or_len, provided, struct_type, ◌>>=◌, lt-ltb, le-ltb, cases_lt, nat_list_eq_equiv, list_any}
+use Rattle.tsdl_meaning.proofs.TextWords.{Atom, IsBehindAlign, IsLargeAlignment, IsPassed, LARGEST_ALIGN, MemberType, Number, StructType, align_of, bytes_eq-Decides, cases_lt, false≢true, has_member, is_some, le-ltb, list_any, lt-ltb, names_in, nat_list_eq_equiv, nat_lt, natural, number_toks, position, position_or_len, provided, struct_type, ◌>>=◌}
 use Rattle.std.proofs.lemmas.List.Sums.{position_or_len_is}
 use Rattle.std.proofs.lemmas.Bool.Decides.{nat_tests}
 use Rattle.std.proofs.Math.Nat.{mod-eq_of_lt}
@@ -37,19 +37,19 @@ pub struct_made : (r : Option StructType) (members : List (List ℕ × MemberTyp
 struct_made (Some t) members align accepted is aligned = sym (struct_type-gives t members align is aligned)
 struct_made None members align accepted is aligned = sym (struct_type-refuses members align (λ h. absurd (false≢true (accepted.1 h))))
 
--- a divisor of 4,096 is at most 4,096
-pub divisor_at_most : (a : ℕ) → 4096 % a ≡ 0 → a ≤ 4096
-divisor_at_most a h = elim (cases_lt 4096 a) [ inl above ↦ (let e : 4096 % a ≡ 4096 = mod-eq_of_lt above in absurd (omega arith)) | inr below ↦ below ]
+-- a divisor of the largest alignment is no larger
+pub divisor_at_most : (a : ℕ) → LARGEST_ALIGN % a ≡ 0 → a ≤ LARGEST_ALIGN
+divisor_at_most a h = elim (cases_lt LARGEST_ALIGN a) [ inl above ↦ (let e : LARGEST_ALIGN % a ≡ LARGEST_ALIGN = mod-eq_of_lt above in absurd (omega arith)) | inr below ↦ below ]
 
 pub literal_is : (n : Number) (v : ℕ) → 0 < v → natural n ≡ Some v → n.literal ≡ v
 literal_is n v some e = grind (arith, nat_tests, some, e)
 
-pub large_align : (front : List Atom) (n : Number) (v : ℕ) → IsBehindAlign front → natural n ≡ Some v → 4096 < v → IsPassed front (number_toks n)
+pub large_align : (front : List Atom) (n : Number) (v : ℕ) → IsBehindAlign front → natural n ≡ Some v → LARGEST_ALIGN < v → IsPassed front (number_toks n)
 large_align front n v ends e large =
     let l : n.literal ≡ v = literal_is n v (omega arith) e in
     let it : IsLargeAlignment front (number_toks n) = record { number = n; ends = ends; large = omega arith; here = refl } in
     inr (inr (inr (inl it)))
 
 -- a number that is an alignment is one where it stands behind a structure
-pub aligned_is : (n : Number) (v : ℕ) → natural n ≡ Some v → is_some (provided (nat_lt 0 v && (4096 % v == 0)) (Some v)) ≡ true → IsSome (align_of (Some n))
-aligned_is n v e there = subst (λ (o : Option ℕ). IsSome (o >>= λ a. provided (nat_lt 0 a && (4096 % a == 0)) (Some a))) (sym e) there
+pub aligned_is : (n : Number) (v : ℕ) → natural n ≡ Some v → is_some (provided (nat_lt 0 v && (LARGEST_ALIGN % v == 0)) (Some v)) ≡ true → IsSome (align_of (Some n))
+aligned_is n v e there = subst (λ (o : Option ℕ). IsSome (o >>= λ a. provided (nat_lt 0 a && (LARGEST_ALIGN % a == 0)) (Some a))) (sym e) there

@@ -1,15 +1,13 @@
 -- A stop in a part of a member, of its kind or its brackets, is a stop in the structure.
-use Rattle.std.proofs.Common.{◌≡◌, ℕ, ◌+◌, ◌≤◌, ◌<◌, true, List, ◌∷◌, ◌++◌, Option, Some, length, take, get_or, min, refl, sym, ap, ◌∙◌, subst, inl, inr, arith, append_assoc, length-take, codes, ◌*◌, ◌⊎◌, max, string_bytes, []}
-use Rattle.tsdl_meaning.proofs.MemberNames.{member_there}
-use Rattle.tsdl_meaning.proofs.TextWords.{AreBrackets, Atom, Bracket, Entry, Global, Holds, IsBehindAlign, IsBehindBrace, IsBehindKind, IsInBrackets, IsMemberTooMany, IsMemberTwice, IsPassed, IsRangeTooMany, IsTwice, IsUnsupported, Kind, MemberTree, MemberType, Number, PassesLimit, StandsBehind, Stop, StopsIn, StopsWhere, String, Structure, align_toks, append-nil, behind_more, bracket_toks, bytes_eq, bytes_eq-Decides, depth, elements, entry_toks, false≢true, flat_map, has_member, kind_toks, label_toks, length-map, list_any, mark, member_toks, most, natural, next_entry_toks, number_toks, stops_after, struct_toks, word}
+use Rattle.std.proofs.Common.{◌≡◌, ℕ, ◌+◌, ◌≤◌, ◌<◌, true, List, ◌∷◌, ◌++◌, Option, Some, length, take, get_or, min, refl, sym, ap, ◌∙◌, subst, inl, inr, arith, append_assoc, length-take, codes, ◌*◌, ◌⊎◌, max, string_bytes, Contains, []}
+use Rattle.tsdl_meaning.proofs.TextWords.{AreBrackets, Atom, Bracket, Entry, Global, IsBehindAlign, IsBehindBrace, IsBehindKind, IsInBrackets, IsMemberTooMany, IsMemberTwice, IsPassed, IsRangeTooMany, IsTwice, IsUnsupported, Kind, MAX_ARRAYS, MAX_ELEMENTS, MAX_MEMBERS, MAX_RANGES, MemberTree, MemberType, Number, PassesLimit, StandsBehind, Stop, StopsIn, StopsWhere, String, Structure, align_toks, append-nil, behind_more, bracket_toks, depth, elements, entry_toks, false≢true, flat_map, kind_toks, label_toks, length-map, mark, member_toks, most, names_in, natural, next_entry_toks, number_toks, stops_after, struct_toks, word}
 use Rattle.tsdl_grammar.specs.declared.token.Mark.TheVariants as marks
 use Rattle.tsdl_grammar.specs.declared.tree.Label.{Label}
 use Rattle.tsdl_grammar.specs.declared.tree.Bracket.TheVariants as brackets
 use Rattle.tsdl_meaning.specs.declared.judge.brackets.Lengths.{Lengths}
 use Rattle.tsdl_meaning.specs.MembersBefore.{AreMembers}
-use Rattle.tsdl_meaning.proofs.Fronts.{any_mapped}
 use Rattle.tsdl_meaning.proofs.FlawlessTypes.{lengths_of}
-use Rattle.tsdl_meaning.proofs.JudgedParts.{ends_part, holds_among, holds_more, holds_part, in_item, in_part, item_there}
+use Rattle.tsdl_meaning.proofs.JudgedParts.{in_item, in_part}
 
 pub label_length : (l : Label) → length (label_toks l) ≡ 1
 label_length l = grind arith
@@ -35,7 +33,7 @@ in_range first others i x front behind at next place stop h is stands passes s =
     stops_after (front ++ range_before first others i) (next_entry_toks x ++ after) (mark marks.Comma ∷ []) (entry_toks x ++ after) next place stop refl (λ fits. omega arith) (s after))
 
 -- a range too many
-pub range_many : (first : Entry) (others : List Entry) (i : ℕ) (label : Label) (front : List Atom) → IsBehindBrace front → 65535 ≤ i → i < length others
+pub range_many : (first : Entry) (others : List Entry) (i : ℕ) (label : Label) (front : List Atom) → IsBehindBrace front → MAX_RANGES ≤ 1 + i → i < length others
     → IsPassed (range_front front first others i) (label_toks label)
 range_many first others i label front brace many h =
     let l : length (take i others) ≡ i = let t = length-take i others in omega arith in
@@ -62,12 +60,12 @@ long_length before l done n v front s e passes ends = by passes
     named : l.is_sequence ≡ true → (w : List ℕ) × (others : List Bracket) × (done ≡ brackets.Member w ∷ others)
     named t = elim s.shape [ inl plain ↦ absurd (false≢true (sym plain.0 ∙ t)) | inr name ↦ (name.1.name, name.1.rest, name.1.begins) ]
 
-    long : (8 ≤ depth done) ⊎ (1048576 < elements done * max v 1) ⊎ ((v ≡ 0) × ((w : List ℕ) × (others : List Bracket) × (done ≡ brackets.Member w ∷ others))) → IsPassed front (number_toks n)
+    long : (MAX_ARRAYS ≤ depth done) ⊎ (MAX_ELEMENTS < elements done * max v 1) ⊎ ((v ≡ 0) × ((w : List ℕ) × (others : List Bracket) × (done ≡ brackets.Member w ∷ others))) → IsPassed front (number_toks n)
     long p = inr (inr (inr (inr (record { before = done; number = n; n = v; ends = ends; here = refl; value = e; passes = p }))))
 
     by : PassesLimit l v → IsPassed front (number_toks n)
     by (inl many) = long (inl (omega (arith, many, are.0)))
-    by (inr (inl large)) = long (inr (inl (subst (λ (k : ℕ). 1048576 < k * max v 1) (sym are.1) large)))
+    by (inr (inl large)) = long (inr (inl (subst (λ (k : ℕ). MAX_ELEMENTS < k * max v 1) (sym are.1) large)))
     by (inr (inr none)) = long (inr (inr (none.0, named none.1)))
 
 -- a stop between brackets
@@ -84,28 +82,21 @@ pub member_parts : (t : MemberTree) (behind : List Atom) → member_toks t ++ be
 member_parts t behind = simp append_assoc
 
 -- the name of a member that is there already
-pub member_twice : (done : List MemberTree) (members : List (List ℕ × MemberType)) (kind : Kind) (w : List ℕ) (front : List Atom) → AreMembers done members → has_member w members ≡ true
+pub member_twice : (done : List MemberTree) (members : List (List ℕ × MemberType)) (kind : Kind) (w : List ℕ) (front : List Atom) → AreMembers done members → Contains (names_in members) w
     → IsBehindKind done kind front → IsTwice front (word w ∷ [])
 member_twice done members kind w front same there ends =
-    let found = item_there member_toks (λ t. bytes_eq w t.name) done (sym (member_there w members ∙ ap (list_any (bytes_eq w)) same ∙ any_mapped (bytes_eq w) (λ t. t.name) done) ∙ there) in
-    let t = found.0 in
-    let own = kind_toks t.kind ++ word w ∷ [] in
-    let alike : w ≡ t.name = (bytes_eq-Decides w t.name).0 found.1 in
-    let rest = flat_map bracket_toks t.brackets ++ mark marks.Semicolon ∷ [] in
-    let here : member_toks t ≡ own ++ rest = ap (λ (n : List ℕ). (kind_toks t.kind ++ word n ∷ flat_map bracket_toks t.brackets) ++ mark marks.Semicolon ∷ []) (sym alike) ∙ simp append_assoc in
-    let members_held : Holds (flat_map member_toks done ++ kind_toks kind) own = holds_more (flat_map member_toks done) (kind_toks kind) own (holds_part (flat_map member_toks done) (member_toks t) own found.2 ([], rest, here)) in
     let it : IsMemberTwice front (word w ∷ []) = record {
       name = w;
       kind = kind;
-      other = t.kind;
-      before = holds_among front (mark marks.OpenBrace ∷ []) (flat_map member_toks done ++ kind_toks kind) own ends members_held;
-      ends = ends_part front (mark marks.OpenBrace ∷ flat_map member_toks done) (kind_toks kind) ends;
+      members = done;
+      ends = ends;
+      before = subst (λ (names : List (List ℕ)). Contains names w) same there;
       here = refl;
     } in
     inr (inl it)
 
 -- the name of a member too many
-pub member_many : (done : List MemberTree) (members : List (List ℕ × MemberType)) (kind : Kind) (w : List ℕ) (front : List Atom) → AreMembers done members → 1024 ≤ length members
+pub member_many : (done : List MemberTree) (members : List (List ℕ × MemberType)) (kind : Kind) (w : List ℕ) (front : List Atom) → AreMembers done members → MAX_MEMBERS ≤ length members
     → IsBehindKind done kind front → IsPassed front (word w ∷ [])
 member_many done members kind w front same many ends =
     let l : length members ≡ length done = sym (length-map members (λ m. m.0)) ∙ ap (λ (ns : List (List ℕ)). length ns) same ∙ length-map done (λ t. t.name) in

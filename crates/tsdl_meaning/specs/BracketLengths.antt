@@ -1,6 +1,7 @@
 -- What the brackets of a member say so far.
 use Rattle.std.specs.Prelude.{◌≡◌, ℕ, ◌+◌, ◌*◌, ◌<◌, ◌≤◌, ◌⊎◌, max, true, List, [], ◌∷◌, ◌++◌}
 use Rattle.std.specs.List.{flat_map}
+use Rattle.ctf_types.specs.declared.limits.TheConstants.{MAX_ARRAYS, MAX_ELEMENTS}
 use Rattle.tsdl_grammar.specs.declared.token.Mark.TheVariants as marks
 use Rattle.tsdl_grammar.specs.declared.atom.Atom.{Atom}
 use Rattle.tsdl_grammar.specs.declared.tree.Bracket.{Bracket}
@@ -16,7 +17,7 @@ pub record Adds (old : Lengths) (n : ℕ) (new : Lengths) : Type 0 where
 
 -- a length that passes a limit behind these
 abbrev pub PassesLimit : Lengths → ℕ → Type 0
-PassesLimit l n = (8 ≤ l.count) ⊎ (1048576 < l.elements * max n 1) ⊎ ((n ≡ 0) × (l.is_sequence ≡ true))
+PassesLimit l n = (MAX_ARRAYS ≤ l.count) ⊎ (MAX_ELEMENTS < l.elements * max n 1) ⊎ ((n ≡ 0) × (l.is_sequence ≡ true))
 
 -- these brackets stand right before the place
 abbrev pub IsBehindBrackets : List Bracket → List Atom → Type 0

@@ -2,6 +2,7 @@
 use Rattle.std.specs.Prelude.{◌≡◌, ℕ, ◌<◌, ◌≤◌, ◌⊎◌, true, false, List, ◌∷◌, length, Some, IsSome, nat_lt}
 use Rattle.std.specs.List.{list_all}
 use Rattle.ctf_types.specs.declared.MemberType.{MemberType}
+use Rattle.ctf_types.specs.declared.limits.TheConstants.{MAX_ARRAYS, MAX_ELEMENTS}
 use Rattle.tsdl_grammar.specs.declared.tree.Bracket.{Bracket}
 use Rattle.tsdl_grammar.specs.declared.tree.Bracket.TheVariants as brackets
 use Rattle.tsdl_grammar.specs.Steps.{each}
@@ -10,8 +11,8 @@ use Rattle.tsdl_meaning.specs.declared.judge.brackets.Lengths.{Lengths}
 
 -- one more length keeps the limits behind these, and leaves a sequence's elements bits
 pub record KeepsLimits (old : Lengths) (n : ℕ) (new : Lengths) : Type 0 where
-  pub few : old.count < 8
-  pub small : new.elements ≤ 1048576
+  pub few : old.count < MAX_ARRAYS
+  pub small : new.elements ≤ MAX_ELEMENTS
   pub bits : old.is_sequence ≡ true → 0 < n
 
 -- brackets with these numbers alone
@@ -31,6 +32,6 @@ pub record AreBrackets (before : List (List ℕ × MemberType)) (done : List Bra
   pub numbers : List ℕ
   pub counted : l.count ≡ length numbers
   pub made : l.elements ≡ elements_of numbers
-  pub few : length numbers ≤ 8
-  pub small : elements_of numbers ≤ 1048576
+  pub few : length numbers ≤ MAX_ARRAYS
+  pub small : elements_of numbers ≤ MAX_ELEMENTS
   pub shape : ((l.is_sequence ≡ false) × HaveNumbers done numbers) ⊎ ((l.is_sequence ≡ true) × NameLength before done numbers)

@@ -3,6 +3,7 @@ use Rattle.std.specs.Prelude.{◌≡◌, ℕ, ◌<◌, true, false, List, [], �
 use Rattle.std.specs.List.{list_all}
 use Rattle.ctf_types.specs.declared.MemberType.{MemberType}
 use Rattle.ctf_types.specs.declared.StructType.{StructType}
+use Rattle.ctf_types.specs.declared.limits.TheConstants.{MAX_MEMBERS}
 use Rattle.tsdl_grammar.specs.declared.tree.MemberTree.{MemberTree}
 use Rattle.tsdl_grammar.specs.declared.tree.Structure.{Structure}
 use Rattle.tsdl_grammar.specs.IntegerMeaning.{Known}
@@ -11,10 +12,10 @@ use Rattle.tsdl_grammar.specs.StructureMeaning.{has_member, struct_meaning}
 use Rattle.tsdl_meaning.specs.declared.scope_rule.ScopeRule.{ScopeRule}
 use Rattle.tsdl_meaning.specs.ScopeRules.{suits_rule}
 
--- one more member behind fewer than 1,024 others: its name is new, it means something, and it is as its scope asks
+-- one more member behind fewer than a structure may have: its name is new, it means something, and it is as its scope asks
 pub record AddsMember (known : Known) (rule : ScopeRule) (before : List (List ℕ × MemberType)) (tree : MemberTree) (after : List (List ℕ × MemberType)) : Type 0 where
   pub member : MemberType
-  pub few : length before < 1024
+  pub few : length before < MAX_MEMBERS
   pub fresh : has_member tree.name before ≡ false
   pub meant : member_meaning known before tree ≡ Some member
   pub suits : suits_rule rule (tree.name, member) ≡ true

@@ -12,6 +12,7 @@ use Rattle.std.specs.declared.alloc.Global.{Global}
 use Rattle.ctf_types.specs.declared.ByteOrder.{ByteOrder}
 use Rattle.ctf_types.specs.declared.ClockType.{ClockType}
 use Rattle.ctf_types.specs.declared.EnvironmentEntry.{EnvironmentEntry}
+use Rattle.ctf_types.specs.declared.limits.TheConstants.{MAX_ENVIRONMENT}
 use Rattle.tsdl_grammar.specs.declared.tree.Item.{Item}
 use Rattle.tsdl_grammar.specs.declared.tree.NamedFact.{NamedFact}
 use Rattle.tsdl_grammar.specs.declared.tree.Block.{Block}
@@ -31,9 +32,9 @@ use Rattle.tsdl_meaning.specs.FlawlessBlocks.{IsFlawlessBlock}
 abbrev pub MeanEntries : List NamedFact → Type 0
 MeanEntries facts = (entries : List EnvironmentEntry) × (environment_meaning facts ≡ Some entries)
 
--- one more entry of an environment, of a new name, behind fewer than 256 others
+-- one more entry of an environment, of a new name, behind fewer than an environment may have
 pub record AddsFact (before : List NamedFact) (fact : NamedFact) : Type 0 where
-  pub few : length before < 256
+  pub few : length before < MAX_ENVIRONMENT
   pub fresh : list_any (bytes_eq fact.name) (map (λ f. f.name) before) ≡ false
   pub meant : is_some (fact_meaning fact.fact) ≡ true
 

@@ -3,6 +3,7 @@
 use Rattle.std.specs.Prelude.{◌≡◌, ℕ, ◌≤◌, ◌%◌, ◌==◌, Bool, false, ◌&&◌, nat_lt, nat_le, List, [], ◌∷◌, length, Some, codes}
 use Rattle.std.specs.Option.{is_some, option_map_or}
 use Rattle.ctf_types.specs.declared.Mapping.{Mapping}
+use Rattle.ctf_types.specs.declared.limits.TheConstants.{LARGEST_ALIGN, MAX_RANGES}
 use Rattle.tsdl_grammar.specs.declared.tree.Entry.{Entry}
 use Rattle.tsdl_grammar.specs.declared.tree.Kind.{Kind}
 use Rattle.tsdl_grammar.specs.declared.tree.Kind.TheVariants as kinds
@@ -20,9 +21,9 @@ use Rattle.tsdl_meaning.specs.FlawlessBlocks.{Asked}
 abbrev pub is_size : Value → Bool
 is_size v = option_map_or (λ n. nat_lt 0 n && nat_le n 64) (natural_value v) false
 
--- a power of two up to 4,096
+-- a power of two up to the largest alignment
 abbrev pub is_alignment : Value → Bool
-is_alignment v = option_map_or (λ n. nat_lt 0 n && (4096 % n == 0)) (natural_value v) false
+is_alignment v = option_map_or (λ n. nat_lt 0 n && (LARGEST_ALIGN % n == 0)) (natural_value v) false
 
 -- what the attributes of an integer are asked for (CTF 1.8.3, section 4.1.5)
 abbrev pub of_integer : Known → Asked
@@ -56,8 +57,8 @@ abbrev pub own_asked : Known → TypeKind → Asked
 own_asked known types.Integer = of_integer known
 own_asked known types.Text = of_string
 
--- at most 65,536 ranges, each of which means something
+-- no more ranges than the limit, each of which means something
 pub record AreRanges (es : List Entry) : Type 0 where
-  pub few : length es ≤ 65536
+  pub few : length es ≤ MAX_RANGES
   pub mappings : List Mapping
   pub mean : each entry_meaning es ≡ Some mappings

@@ -20,3 +20,4 @@ pub mod PacketSizes
 pub mod FlawlessTexts
 pub mod NotedBlocks
 pub mod Words
+pub mod OfferedWords

@@ -4,6 +4,7 @@ pub use Rattle.ctf_types.specs.Chain.{ByteString, Chain, Labelled, Leaf}
 pub use Rattle.ctf_types.specs.FieldTypes.{chain_of}
 pub use Rattle.ctf_types.specs.Members.{names_in}
 pub use Rattle.ctf_types.specs.Names.{IsMetadataName, is_digit, is_letter, unused_keywords}
+pub use Rattle.ctf_types.specs.Packets.{own_names}
 pub use Rattle.ctf_types.specs.declared.ByteOrder.{ByteOrder}
 pub use Rattle.ctf_types.specs.declared.ClockType.{ClockType}
 pub use Rattle.ctf_types.specs.declared.EnvironmentEntry.{EnvironmentEntry}
@@ -14,6 +15,7 @@ pub use Rattle.ctf_types.specs.declared.MemberType.TheVariants.{Dyn, Plain}
 pub use Rattle.ctf_types.specs.declared.Metadata.{Metadata}
 pub use Rattle.ctf_types.specs.declared.Stream.{Stream}
 pub use Rattle.ctf_types.specs.declared.StructType.{StructType}
+pub use Rattle.ctf_types.specs.declared.limits.TheConstants.{LARGEST_ALIGN, MAX_ARRAYS, MAX_ELEMENTS, MAX_ENVIRONMENT, MAX_MEMBERS, MAX_RANGES}
 pub use Rattle.std.specs.BTreeMap.{BTreeMap, ContainsKey, btree_map_len, get, insert_entry, is_at, values}
 pub use Rattle.std.specs.BTreeSet.{BTreeSet, contains, contains_text}
 pub use Rattle.std.specs.Cmp.{Equal-is, IsTotalOrder, eq_by_cmp_equiv, nat_cmp_is, nat_cmp_total}
@@ -37,7 +39,7 @@ pub use Rattle.tsdl_flaw.specs.Twice.{HasNumbers, IsMemberTwice, IsNameTwice, Is
 pub use Rattle.tsdl_flaw.specs.Written.{with_dot, written}
 pub use Rattle.tsdl_flaw.specs.declared.flaw.Stop.{Stop}
 pub use Rattle.tsdl_grammar.specs.AttributeValues.{alone, flag_value, flag_words, is_negative, meant_by, name_value, natural, natural_value, one_word, optional, signed_of, text_value, uuid_value, whole, whole_value, with_default, word_value}
-pub use Rattle.tsdl_grammar.specs.BlockMeaning.{clock_meaning, context_names, environment_meaning, event_context, event_header, event_meaning, fact_meaning, fields_scope, has_number, is_byte, is_flat, is_trace, is_unsigned_of, is_uuid, named_fact_meaning, number_or_zero, order_table, packet_context, packet_header, specific_context, stream_meaning, suits, suits_header, trace_order}
+pub use Rattle.tsdl_grammar.specs.BlockMeaning.{clock_meaning, environment_meaning, event_context, event_header, event_meaning, fact_meaning, fields_scope, has_number, is_byte, is_flat, is_trace, is_unsigned_of, is_uuid, named_fact_meaning, number_or_zero, order_table, packet_context, packet_header, specific_context, stream_meaning, suits, suits_header, trace_order}
 pub use Rattle.tsdl_grammar.specs.Denotes.{Denotes, clock_in, environment_in, event_in, events_of, have_streams, is_read, known_of, stream_in, streams_meaning, text_meta, trace_in, with_events}
 pub use Rattle.tsdl_grammar.specs.IntegerMeaning.{Known, base_value, base_words, clock_value, default_align, has_only, int_attrs, int_meaning, int_type, order_value, order_words}
 pub use Rattle.tsdl_grammar.specs.Laws.{NumbersRise, SaysClock, SaysEvent, SaysMetadata, SaysStream}

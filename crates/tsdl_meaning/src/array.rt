@@ -1,8 +1,9 @@
 //! Arrays, by the lengths in their brackets (CTF 1.8.3, section 4.2.3). The first length is the outermost array's.
 
-ghost use Rattle.std.specs.Prelude.{◌≡◌, ◌≤◌, ◌^◌, IfOk, nat_lt, nat_le};
-ghost use Rattle.tsdl_meaning.specs.Words.{list_all, Leaf, each, field_of, arrays_of, elements_of, are_lengths, count_of};
+ghost use Rattle.std.specs.Prelude.{◌≡◌, ◌≤◌, IfOk, nat_lt, nat_le};
+ghost use Rattle.tsdl_meaning.specs.Words.{MAX_ELEMENTS, list_all, Leaf, each, field_of, arrays_of, elements_of, are_lengths, count_of};
 
+use crate::room::with_room;
 use crate::value::{Meant, natural};
 use ctf_types::{Element, FieldType, ListOf, MAX_ARRAYS, MAX_ELEMENTS};
 use std::alloc::{AllocError, Global};
@@ -14,7 +15,7 @@ pub(crate) fn arrays_of(
     field: FieldType,
     lengths: &[u64],
 ) -> Result<FieldType, AllocError>
-    requires { elements_of lengths.now ≤ 2 ^ 20 }
+    requires { elements_of lengths.now ≤ MAX_ELEMENTS }
     ensures { (leaf : Leaf) → field ≡ field_of leaf → IfOk result (λ t. t ≡ arrays_of leaf lengths.now) }
 {
     match lengths {
@@ -26,16 +27,16 @@ pub(crate) fn arrays_of(
     }
 }
 
-/// Whether these are the lengths of at most 8 arrays in one another, of at most 2^20 elements.
+/// Whether these are the lengths of arrays in one another, no deeper and of no more elements than the limits.
 pub(crate) fn are_lengths(lengths: &[u64]) -> bool
     ensures { result ≡ are_lengths lengths.now }
 {
     lengths.len() <= MAX_ARRAYS && are_few(lengths)
 }
 
-/// Whether arrays of these lengths have at most 2^20 elements, a length of 0 counted as 1.
+/// Whether arrays of these lengths have no more elements than the limit, a length of 0 counted as 1.
 fn are_few(lengths: &[u64]) -> bool
-    ensures { result ≡ nat_le (elements_of lengths.now) (2 ^ 20) }
+    ensures { result ≡ nat_le (elements_of lengths.now) MAX_ELEMENTS }
 {
     let mut elements = 1u64;
     for length in lengths {
@@ -55,7 +56,7 @@ pub(crate) fn have_bits(lengths: &[u64]) -> bool
 pub(crate) fn counts_of(alloc: Global, brackets: &[Bracket]) -> Meant<ListOf<u64>>
     ensures { IfOk result (λ ns. ns ≡ each count_of brackets.now) }
 {
-    let mut counts = ListOf::new(alloc);
+    let mut counts = with_room(alloc, brackets.len())?;
     for bracket in brackets {
         let Bracket::Count(number) = bracket else {
             return Ok(None);

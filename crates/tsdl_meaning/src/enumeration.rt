@@ -3,15 +3,13 @@
 ghost use Rattle.std.specs.Prelude.{int_le, ◌≡◌, ◌∷◌, IfOk};
 ghost use Rattle.tsdl_meaning.specs.Words.{each, signed_of, high_of, entry_meaning, enum_meaning};
 
+use crate::room::with_room;
 use crate::value::{Meant, signed_of};
-use ctf_types::{EnumType, IntType, ListOf, Mapping, Text};
+use ctf_types::{EnumType, IntType, ListOf, MAX_RANGES, Mapping, Text};
 use std::alloc::Global;
 use tsdl_grammar::{Entries, Entry, Label, Number};
 
-/// The most ranges that an enumeration has.
-pub(crate) const MAX_RANGES: usize = 65536;
-
-/// The enumeration over an integer type, of at most 65,536 ranges.
+/// The enumeration over an integer type, of no more ranges than the limit.
 #[tactic(auto, unfolding(tsdl_grammar::specs::MemberMeaning::enum_meaning))]
 pub(crate) fn enum_meaning(alloc: Global, int: IntType, entries: &Entries) -> Meant<EnumType>
     ensures { IfOk result (λ t. t ≡ enum_meaning int entries.now) }
@@ -29,7 +27,7 @@ pub(crate) fn enum_meaning(alloc: Global, int: IntType, entries: &Entries) -> Me
 fn mappings_of(alloc: Global, first: &Entry, others: &[Entry]) -> Meant<ListOf<Mapping>>
     ensures { IfOk result (λ ms. ms ≡ each entry_meaning (first.now ∷ others.now)) }
 {
-    let mut mappings = ListOf::new(alloc);
+    let mut mappings = with_room(alloc, others.len().saturating_add(1))?;
     mappings.push(meant!(entry_meaning(alloc, first)?))?;
     for entry in others {
         mappings.push(meant!(entry_meaning(alloc, entry)?))?;

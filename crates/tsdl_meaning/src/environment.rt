@@ -3,12 +3,13 @@
 ghost use Rattle.std.specs.Prelude.{◌≡◌, map, IfOk};
 ghost use Rattle.tsdl_meaning.specs.Words.{list_any, bytes_eq, no_two, each, fact_meaning, named_fact_meaning, environment_meaning};
 
+use crate::room::with_room;
 use crate::value::{Meant, whole};
 use ctf_types::{EnvironmentEntry, EnvironmentValue, ListOf, MAX_ENVIRONMENT, Text};
 use std::alloc::Global;
 use tsdl_grammar::{Fact, NamedFact};
 
-/// The environment of at most 256 names, of which none stands twice.
+/// The environment of no more names than the limit, of which none stands twice.
 #[tactic(auto, unfolding(tsdl_grammar::specs::BlockMeaning::environment_meaning))]
 pub(crate) fn environment_meaning(
     alloc: Global,
@@ -43,7 +44,7 @@ pub(crate) fn has_fact(name: &Text, facts: &[NamedFact]) -> bool
 fn entries_of(alloc: Global, facts: &[NamedFact]) -> Meant<ListOf<EnvironmentEntry>>
     ensures { IfOk result (λ es. es ≡ each named_fact_meaning facts.now) }
 {
-    let mut entries = ListOf::new(alloc);
+    let mut entries = with_room(alloc, facts.len())?;
     for fact in facts {
         let entry = meant!(named_fact_meaning(alloc, fact)?);
         entries.push(entry)?;

@@ -1,5 +1,6 @@
 //! What `integer { .. }` means (CTF 1.8.3, section 4.1.5).
 
+ghost use Rattle.tsdl_meaning.specs.OfferedWords.{orders_offered};
 ghost use Rattle.std.specs.Prelude.{◌≡◌, option_map, IfOk};
 ghost use Rattle.tsdl_meaning.specs.Words.{meant_by, int_type, default_align, base_words, base_value, order_words, order_value, clock_value, int_meaning, texts_of};
 
@@ -88,7 +89,10 @@ fn order_words(order: ByteOrder) -> &'static [&'static str]
 }
 
 /// The byte orders that an integer may have, by the trace's own one, in words.
-pub(crate) fn orders_of(trace: Option<ByteOrder>) -> &'static str {
+#[tactic(auto, unfolding(crate::specs::OfferedWords::offered))]
+pub(crate) fn orders_of(trace: Option<ByteOrder>) -> &'static str
+    ensures { result.now ≡ orders_offered trace }
+{
     match trace {
         None => "`native`",
         Some(ByteOrder::Little) => "`native` or `le`",

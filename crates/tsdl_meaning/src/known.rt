@@ -3,6 +3,7 @@
 ghost use Rattle.std.specs.Prelude.{◌≡◌, IfOk};
 ghost use Rattle.tsdl_meaning.specs.Words.{list_any, bytes_eq, known_of};
 
+use crate::room::with_room;
 use ctf_types::{ByteOrder, ClockType, ListOf, Text};
 use std::alloc::{AllocError, Global};
 use std::collections::BTreeSet;
@@ -36,7 +37,7 @@ impl Known {
     ) -> Result<Known, AllocError>
         ensures { IfOk result (λ k. k ≡ known_of order clocks.now) }
     {
-        let mut names = ListOf::new(alloc);
+        let mut names = with_room(alloc, clocks.len())?;
         for clock in clocks {
             names.push(clock.name.copy(alloc)?)?;
         }

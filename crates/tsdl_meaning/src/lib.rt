@@ -31,6 +31,7 @@ mod laws;
 mod lookup;
 mod member;
 mod numbered;
+mod room;
 mod scope_rule;
 mod stream;
 mod structure;

@@ -172,7 +172,7 @@ fn words_of<'a>(alloc: Global, name: &'a Name) -> Result<Vec<&'a str>, AllocErro
 fn has_attrs_once(alloc: Global, items: &[Item]) -> Result<bool, AllocError>
     ensures { IfOk result (λ once. once ≡ are_distinct (attr_names (attrs_in items.now))) }
 {
-    let mut names = Vec::new(alloc);
+    let mut names = Vec::with_capacity(alloc, items.len())?;
     for item in items {
         if let Item::Attribute(attribute) = item {
             names.push(words_of(alloc, &attribute.name)?)?;

@@ -4,17 +4,7 @@ ghost use Rattle.std.specs.Prelude.{◌≡◌, ◌<◌, length};
 ghost use Rattle.tsdl_meaning.specs.Words.{list_all, list_any, bytes_eq, is_unsigned_of, is_uuid, suits_header, suits, chain_of, texts_of, suits_rule, is_byte_chain, SuitsAt};
 
 use crate::member::is_unsigned;
-use ctf_types::{FieldType, MemberType, Members};
-
-/// The names that a packet context gives a meaning.
-const CONTEXT_NAMES: [&str; 6] = [
-    "packet_size",
-    "content_size",
-    "timestamp_begin",
-    "timestamp_end",
-    "events_discarded",
-    "packet_seq_num",
-];
+use ctf_types::{FieldType, MemberType, Members, OWN_NAMES};
 
 /// The names that an event header gives a meaning.
 const EVENT_HEADER_NAMES: [&str; 1] = ["id"];
@@ -57,7 +47,7 @@ pub(crate) fn suits_rule(rule: ScopeRule, name: &str, member: &MemberType) -> bo
     match rule {
         ScopeRule::AnyMembers => true,
         ScopeRule::PacketHeader => suits_header(name, member),
-        ScopeRule::PacketContext => suits(&CONTEXT_NAMES, name, member),
+        ScopeRule::PacketContext => suits(&OWN_NAMES, name, member),
         ScopeRule::EventHeader => suits(&EVENT_HEADER_NAMES, name, member),
     }
 }

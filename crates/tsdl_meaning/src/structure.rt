@@ -1,19 +1,16 @@
 //! What a structure means (CTF 1.8.3, section 4.2.1).
 
 ghost use Rattle.std.specs.Prelude.{◌≡◌, ◌↔◌, [], option_map, IfOk, IsTrue, nat_lt, ◌&&◌, ◌==◌, ◌%◌, Some};
-ghost use Rattle.tsdl_meaning.specs.Words.{Contains, names_in, provided, struct_type, has_member, members_meaning, struct_meaning, scope_meaning, scopes_in, texts_of, suits_rule};
+ghost use Rattle.tsdl_meaning.specs.Words.{LARGEST_ALIGN, Contains, names_in, provided, struct_type, has_member, members_meaning, struct_meaning, scope_meaning, scopes_in, texts_of, suits_rule};
 
 use crate::known::Known;
 use crate::lookup::scope_in;
 use crate::member::member_meaning;
 use crate::scope_rule::{ScopeRule, all_suit};
 use crate::value::{Meant, natural};
-use ctf_types::{LARGEST_ALIGN, Members, StructType};
+use ctf_types::{LARGEST_ALIGN, MAX_MEMBERS, Members, StructType};
 use std::alloc::Global;
 use tsdl_grammar::{Item, MemberTree, Number, Structure};
-
-/// The most members of a structure.
-pub(crate) const MAX_MEMBERS: usize = 1024;
 
 /// The structure of the scope of this name in a block, without members where the scope is not there.
 pub(crate) fn scope_meaning(
@@ -32,7 +29,7 @@ pub(crate) fn scope_meaning(
     Ok(structure.filter(|structure| all_suit(rule, &structure.members)))
 }
 
-/// The structure type of a tree: at most 1,024 members, no two of one name, and the minimum alignment.
+/// The structure type of a tree: no more members than the limit, no two of one name, and the minimum alignment.
 #[tactic(auto, unfolding(tsdl_grammar::specs::StructureMeaning::struct_meaning))]
 fn struct_meaning(alloc: Global, known: &Known, structure: &Structure) -> Meant<StructType>
     ensures { IfOk result (λ t. t ≡ struct_meaning known.now structure.now) }
@@ -70,10 +67,10 @@ pub(crate) fn has_member(members: &Members, name: &str) -> bool
     members.contains(name)
 }
 
-/// The number as an alignment, if it is a power of two up to 4,096.
+/// The number as an alignment, if it is a power of two up to the largest one.
 #[tactic(auto, using(crate::proofs::MemberNames::divisor_at_most))]
 pub(crate) fn alignment(align: u64) -> Option<u32>
-    ensures { result ≡ provided (nat_lt 0 align && (4096 % align == 0)) (Some align) }
+    ensures { result ≡ provided (nat_lt 0 align && (LARGEST_ALIGN % align == 0)) (Some align) }
 {
     if align == 0 || LARGEST_ALIGN % align != 0 {
         return None;

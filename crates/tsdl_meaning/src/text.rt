@@ -8,6 +8,7 @@ use crate::environment::environment_meaning;
 use crate::judge::{first_flaw, survey_of_blocks};
 use crate::known::Known;
 use crate::lookup::{are_distinct, attr_in};
+use crate::room::with_room;
 use crate::structure::scope_meaning;
 use crate::text_streams::streams_meaning;
 use crate::trace::{PACKET_HEADER, is_trace, trace_order};
@@ -92,18 +93,26 @@ fn facts_of(blocks: &[Block]) -> Option<&[NamedFact]>
 fn are_apart(alloc: Global, texts: &[Text]) -> Result<bool, AllocError>
     ensures { IfOk result (λ apart. apart ≡ no_two bytes_eq texts.now) }
 {
-    let mut words = Vec::new(alloc);
+    let mut words = Vec::with_capacity(alloc, texts.len())?;
     for text in texts {
         words.push(text.as_str())?;
     }
     are_distinct(alloc, words)
 }
 
+/// How many clock blocks there are.
+fn count_clocks(blocks: &[Block]) -> usize {
+    blocks
+        .iter()
+        .filter(|block| matches!(block, Block::Clock(_)))
+        .count()
+}
+
 /// The clock types of the clock blocks.
 fn clocks_of(alloc: Global, blocks: &[Block]) -> Meant<ListOf<ClockType>>
     ensures { IfOk result (λ cs. cs ≡ each clock_meaning (flat_map clock_in blocks.now)) }
 {
-    let mut clocks = ListOf::new(alloc);
+    let mut clocks = with_room(alloc, count_clocks(blocks))?;
     for block in blocks {
         if let Block::Clock(items) = block {
             clocks.push(meant!(clock_meaning(alloc, items.as_slice())?))?;

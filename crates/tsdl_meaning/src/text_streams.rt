@@ -6,6 +6,7 @@ ghost use Rattle.tsdl_meaning.specs.Groups.{HasNumbers};
 
 use crate::known::Known;
 use crate::numbered::by_number;
+use crate::room::with_room;
 use crate::stream::{event_meaning, stream_meaning};
 use crate::value::Meant;
 use ctf_types::{Duplicate, Event, ListOf, Stream};
@@ -37,7 +38,7 @@ pub(crate) fn streams_meaning(
 fn streams_found(alloc: Global, known: &Known, blocks: &[Block]) -> Meant<ListOf<Stream>>
     ensures { IfOk result (λ ss. ss ≡ each (stream_meaning known.now) (flat_map stream_in blocks.now)) }
 {
-    let mut streams = ListOf::new(alloc);
+    let mut streams = with_room(alloc, count_streams(blocks))?;
     let mut rest = blocks;
     while let [block, others @ ..] = rest {
         if let Block::Stream(items) = block {
@@ -48,11 +49,19 @@ fn streams_found(alloc: Global, known: &Known, blocks: &[Block]) -> Meant<ListOf
     Ok(Some(streams))
 }
 
+/// How many stream blocks there are.
+fn count_streams(blocks: &[Block]) -> usize {
+    blocks
+        .iter()
+        .filter(|block| matches!(block, Block::Stream(_)))
+        .count()
+}
+
 /// The events of the event blocks, as they stand, each with the number of its stream.
 fn events_found(alloc: Global, known: &Known, blocks: &[Block]) -> Meant<ListOf<(u64, Event)>>
     ensures { IfOk result (λ es. es ≡ each (event_meaning known.now) (flat_map event_in blocks.now)) }
 {
-    let mut events = ListOf::new(alloc);
+    let mut events = with_room(alloc, count_events(blocks))?;
     let mut rest = blocks;
     while let [block, others @ ..] = rest {
         if let Block::Event(items) = block {
@@ -61,6 +70,14 @@ fn events_found(alloc: Global, known: &Known, blocks: &[Block]) -> Meant<ListOf<
         rest = others;
     }
     Ok(Some(events))
+}
+
+/// How many event blocks there are.
+fn count_events(blocks: &[Block]) -> usize {
+    blocks
+        .iter()
+        .filter(|block| matches!(block, Block::Event(_)))
+        .count()
 }
 
 /// Whether each event is of a stream that is there.
@@ -100,6 +117,7 @@ fn groups_of(alloc: Global, events: ListOf<(u64, Event)>) -> Result<Groups, Allo
     left.reverse();
     while let Some(event) = left.pop() {
         add_event(alloc, &mut groups, event)?;
+        left.shrink_to_fit();
     }
     Ok(groups)
 }
@@ -120,7 +138,7 @@ fn streams_with(alloc: Global, groups: Groups, streams: &[Stream]) -> Meant<List
     requires { NumbersRise (λ s. s.id) streams.now }
     ensures { IfOk result (λ ss. ss ≡ each (with_group groups) streams.now) }
 {
-    let mut made = ListOf::new(alloc);
+    let mut made = with_room(alloc, streams.len())?;
     let mut left = groups;
     let mut rest = streams;
     while let [stream, others @ ..] = rest {

@@ -32,6 +32,10 @@ fn flaw_at(alloc: Global, text: &[u8], at: usize, expected: Expected) -> Result<
         Some(Atom::Word(word)) => flaw_of_word(alloc, word.as_str(), expected),
         Some(Atom::Mark(Mark::Comma | Mark::CloseBrace))
             if matches!(expected, Expected::LabelMark) => { Ok(Flaw::LabelWithoutValue) }
+        Some(Atom::Mark(Mark::OpenBrace)) => {
+            let begun = block_begins(alloc, text, at)?;
+            Ok(Flaw::Syntax(words_at_brace(begun, expected)))
+        }
         _ => Ok(Flaw::Syntax(expected.words())),
     }
 }
@@ -50,6 +54,33 @@ fn atom_at(alloc: Global, text: &[u8], at: usize) -> Result<Option<Atom>, AllocE
         rest = behind;
     }
     Ok(None)
+}
+
+/// Whether the word of a block stands before the atom of this index.
+fn block_begins(alloc: Global, text: &[u8], at: usize) -> Result<bool, AllocError> {
+    let Some(before) = at.checked_sub(1) else {
+        return Ok(false);
+    };
+    match atom_at(alloc, text, before)? {
+        Some(Atom::Word(word)) => Ok(matches!(
+            word.as_str(),
+            "trace" | "env" | "clock" | "stream" | "event"
+        )),
+        Some(Atom::Number(_) | Atom::Text(_) | Atom::Mark(_) | Atom::TooLarge) | None => {
+            Ok(false)
+        }
+    }
+}
+
+/// What is expected where an opening brace stands: where a block begins among the items of another one, that one may not be
+/// closed.
+fn words_at_brace(block_begins: bool, expected: Expected) -> &'static str {
+    match expected {
+        Expected::ItemMark if block_begins => "`=` or `:=`, or a `}` that closes the block before",
+        Expected::Mark(Mark::Equals) if block_begins =>
+            "`=`, or a `}` that closes the block before",
+        _ => expected.words(),
+    }
 }
 
 fn flaw_of_word(alloc: Global, word: &str, expected: Expected) -> Result<Flaw, AllocError>

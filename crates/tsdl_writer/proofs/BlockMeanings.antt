@@ -1,5 +1,5 @@
 -- What the trees of blocks mean: the trace, the clock, the stream or the event that they were made of.
-use Rattle.tsdl_writer.proofs.TreeWords.{Structure, nat_tests, trace_items, stream_items, event_items, All, Bool, ByteOrder, ClockType, EnvironmentEntry, EnvironmentValue, Event, IfSome, IsDistinct, IsDistinct-head, IsDistinct-tail, IsHeldUuid, IsHeldValue, Known, List, MemberType, Option, SFits, Some, Stream, StructType, [], ap, arith, bytes_eq, clock_items, clock_meaning, codes, context_names, environment_meaning, event_context, event_header, event_meaning, false, fields_scope, flag_value, has_member, ints, is_trace, length, length-map, list_all, map, named_fact_meaning, named_fact_tree, natural_value, optional, packet_context, packet_header, refl, specific_context, stream_meaning, structure_of, suits, sym, trace_order, trace_uuid, true, uuid_value, w64, whole, whole_number, ℕ, ℤ, ◌∷◌, ◌≡◌, ◌≤◌}
+use Rattle.tsdl_writer.proofs.TreeWords.{Structure, nat_tests, trace_items, stream_items, event_items, All, Bool, ByteOrder, ClockType, EnvironmentEntry, EnvironmentValue, Event, IfSome, IsDistinct, IsDistinct-head, IsDistinct-tail, IsHeldUuid, IsHeldValue, Known, List, MAX_ENVIRONMENT, MemberType, Option, SFits, Some, Stream, StructType, [], ap, arith, bytes_eq, clock_items, clock_meaning, codes, environment_meaning, event_context, event_header, event_meaning, false, fields_scope, flag_value, has_member, ints, is_trace, length, length-map, list_all, map, named_fact_meaning, named_fact_tree, natural_value, optional, own_names, packet_context, packet_header, refl, specific_context, stream_meaning, structure_of, suits, sym, trace_order, trace_uuid, true, uuid_value, w64, whole, whole_number, ℕ, ℤ, ◌∷◌, ◌≡◌, ◌≤◌}
 use Rattle.tsdl_writer.proofs.{FieldMeanings.{Members, each_own}, StructureMeanings.found}
 use Rattle.tsdl_grammar.specs.Lookups.{attr, scope, attrs_in, scopes_in, has_parts, no_two}
 use Rattle.std.proofs.lemmas.{List.Elements.{All-from_recursion}, List.Folds.list_any_none, List.Sums.{list_all-from_AllPass}}
@@ -38,7 +38,7 @@ stream_found id context header common align = grind arith
 all_pass : (ms : Members) → list_all (λ (m : List ℕ × MemberType). true) ms ≡ true
 all_pass ms = list_all-from_AllPass (λ m. true) ms (λ k d l. refl)
 
-pub stream_is : (known : Known) (context header common : Members) (align : ℕ) (s : Stream) → IsRead known (suits context_names) (found context 8) s.context → IsRead known (suits (codes "id" ∷ [])) (found header 8) s.event_header
+pub stream_is : (known : Known) (context header common : Members) (align : ℕ) (s : Stream) → IsRead known (suits own_names) (found context 8) s.context → IsRead known (suits (codes "id" ∷ [])) (found header 8) s.event_header
     → structure_of known (found common align) ≡ Some s.common → (has_member (codes "packet_size") s.context.members ≡ true) × (has_member (codes "content_size") s.context.members ≡ true) → s.events ≡ []
     → stream_meaning known (stream_items s.id context header common align) ≡ Some s
 unfolding stream_meaning
@@ -74,7 +74,7 @@ names_same : (es : List EnvironmentEntry) → map (λ f. f.name) (map named_fact
 names_same [] = refl
 names_same (e ∷ es) = ap (λ (w : List (List ℕ)). e.name ∷ w) (names_same es)
 
-pub environment_is : (es : List EnvironmentEntry) → All (λ e. IsHeldValue e.value) es → IsDistinct bytes_eq (map (λ e. e.name) es) → length es ≤ 256
+pub environment_is : (es : List EnvironmentEntry) → All (λ e. IsHeldValue e.value) es → IsDistinct bytes_eq (map (λ e. e.name) es) → length es ≤ MAX_ENVIRONMENT
     → environment_meaning (map named_fact_tree es) ≡ Some es
 unfolding environment_meaning
 environment_is es h apart few =

@@ -1,5 +1,5 @@
 -- What the stream and event blocks of a configuration mean: its streams by number, each with its events.
-use Rattle.tsdl_writer.proofs.TreeWords.{arith, AllByRecursion, All, All-head, All-tail, EventType, IsEventType, IsStream, IsStreamType, Known, List, Some, StreamType, [], all_event_blocks, ap, codes, context_names, context_numbers, context_of, each, event_blocks, event_header_members, event_header_of, event_in, event_items, event_meaning, event_of, flat_map, flat_map-append, refl, shown_members, shown_struct, stream_blocks, stream_in, stream_items, stream_meaning, stream_of, streams_of, ℕ, ◌++◌, ◌+◌, ◌∙◌, ◌∷◌, ◌≡◌}
+use Rattle.tsdl_writer.proofs.TreeWords.{arith, AllByRecursion, All, All-head, All-tail, EventType, IsEventType, IsStream, IsStreamType, Known, List, Some, StreamType, [], all_event_blocks, ap, codes, context_numbers, context_of, each, event_blocks, event_header_members, event_header_of, event_in, event_items, event_meaning, event_of, flat_map, flat_map-append, own_names, refl, shown_members, shown_struct, stream_blocks, stream_in, stream_items, stream_meaning, stream_of, streams_of, ℕ, ◌++◌, ◌+◌, ◌∙◌, ◌∷◌, ◌≡◌}
 use Rattle.tsdl_writer.proofs.{StructureMeanings.structure_read, StructuresRead.{context_shows, event_header_shows, config_shows, all_suit}}
 use Rattle.tsdl_writer.proofs.{BlockMeanings.{stream_is, event_is}, NumberedBlocks.{each-append, bare, bares, tagged, all_tagged}}
 use Rattle.ctf_types.specs.MetadataOf as meta
@@ -10,7 +10,7 @@ unfolding bare stream_of context_of shown_members
 stream_block_read known n s t h =
     let context = context_numbers s.context ++ s.extras.members in let header = event_header_members s.event_header in
     stream_is known context header s.common.members s.common.min_align (bare n s)
-    (structure_read known context 8 (context_of s) (context_shows known.clocks s t h.context), all_suit context_names (context_of s).members h.own_are_unsigned)
+    (structure_read known context 8 (context_of s) (context_shows known.clocks s t h.context), all_suit own_names (context_of s).members h.own_are_unsigned)
     (structure_read known header 8 (event_header_of s) (event_header_shows known.clocks s h.event_header), all_suit (codes "id" ∷ []) (event_header_of s).members (λ k d l. let one = h.id k d l in grind (arith, one)))
     (structure_read known s.common.members s.common.min_align (shown_struct s.common) (config_shows known.clocks s.common t.common)) (refl, refl) refl
 

@@ -4,6 +4,7 @@ pub use Rattle.ctf_types.proofs.{AllowedMembers.{metadata_name_of_plain, no_memb
 pub use Rattle.ctf_types.specs.Allowed.{HasBits, IsField, Where, IsByteType, IsIdentity, IsLeaf, IsMagic, IsMappedTo, IsMetadata, IsNest, IsRange, IsStream, IsStruct, IsUnsigned}
 pub use Rattle.ctf_types.specs.AllowedConfig.{IsClockType, IsConfig, IsConfigMember, IsConfigStruct, IsEventType, IsStreamType}
 pub use Rattle.ctf_types.specs.{Chain.{ByteString, Labelled, Leaf, Number}, FieldTypes.chain_of, Members.names_in}
+pub use Rattle.ctf_types.specs.{Packets.own_names, declared.limits.TheConstants.MAX_ENVIRONMENT}
 pub use Rattle.ctf_types.specs.MetadataOf.{context_numbers, event_header_members, header_members, number_member, struct_with, uuid_member}
 pub use Rattle.ctf_types.specs.{Names.{IsMetadataName, IsPlainName, is_digit, is_letter, unused_keywords}, Shown.{length_name, length_type, shown_struct}}
 unfoldable pub use Rattle.ctf_types.specs.{Allowed.AreMembers, MetadataOf.{context_of, event_header_of, event_of, header_of, metadata_of, stream_of, streams_of}}
@@ -18,7 +19,7 @@ pub use Rattle.std.proofs.lemmas.{Map.Keys.{IsDistinct-head, IsDistinct-tail}, S
 pub use Rattle.std.specs.{Int.w128, List.{AllByRecursion, IsDistinct, list_all, list_any, prefix_len}}
 pub use Rattle.tsdl_grammar.proofs.TypeParts.{int_type-own, struct_type-gives}
 pub use Rattle.tsdl_grammar.specs.AttributeValues.{natural_value, optional, signed_of, whole}
-pub use Rattle.tsdl_grammar.specs.BlockMeaning.{context_names, event_context, event_header, fields_scope, is_byte, is_trace, is_unsigned_of, is_uuid, named_fact_meaning, packet_context, packet_header, specific_context, suits, suits_header, trace_order}
+pub use Rattle.tsdl_grammar.specs.BlockMeaning.{event_context, event_header, fields_scope, is_byte, is_trace, is_unsigned_of, is_uuid, named_fact_meaning, packet_context, packet_header, specific_context, suits, suits_header, trace_order}
 pub use Rattle.tsdl_grammar.specs.Denotes.{Denotes, clock_in, environment_in, event_in, have_streams, is_read, known_of, stream_in, trace_in, with_events}
 pub use Rattle.tsdl_grammar.specs.{IntegerMeaning.{Known, int_type}, MemberMeaning.{are_lengths, arrays_of, count_of, entries_of, high_of, is_unsigned, length_place}}
 pub use Rattle.tsdl_grammar.specs.Spelling.{align_toks, attr_toks, block_and_semicolon, braced, bracket_toks, entries_toks, entry_toks, fact_toks, high_toks, int_toks, item_toks, kind_toks, member_toks, name_toks, named_fact_toks, next_entry_toks, number_toks, text_toks}

@@ -13,7 +13,7 @@ use crate::judge::value::{
 use crate::trace::{ORDERS, order_word};
 use crate::value::{one_word, word_value};
 use std::alloc::Global;
-use tsdl_flaw::{Flaw, Remedy, Stop};
+use tsdl_flaw::{Flaw, Numbered, Remedy, Stop};
 use tsdl_grammar::{Attribute, Value};
 
 /// Judges an attribute of a block behind the names of others.
@@ -48,8 +48,13 @@ fn judge_named(judging: &Judging, word: &str, value: &Value, at: usize) -> Resul
             _ => Ok(()),
         },
         BlockKind::Stream => {
-            if word == "id" && judging.ledger.has_stream(judge_natural(value, at)?) {
-                return Err(Stop::at(at, value, Flaw::Duplicate));
+            if word == "id" {
+                let stream = judge_natural(value, at)?;
+                if judging.ledger.has_stream(stream) {
+                    let event = None;
+                    let flaw = Flaw::NumberTwice(Numbered { stream, event });
+                    return Err(Stop::at(at, value, flaw));
+                }
             }
             Ok(())
         }

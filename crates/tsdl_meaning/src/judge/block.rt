@@ -18,7 +18,7 @@ use crate::trace::PACKET_HEADER;
 use crate::value::whole;
 use ctf_types::MAX_ENVIRONMENT;
 use std::alloc::Global;
-use tsdl_flaw::{Fault, Flaw, Numbered, Remedy, Spelled, Stop};
+use tsdl_flaw::{Fault, Flaw, Limit, Numbered, Remedy, Spelled, Stop};
 use tsdl_grammar::{Fact, Item, NamedFact, Scope};
 
 #[derive(Clone, Copy)]
@@ -188,7 +188,7 @@ fn judge_entry(before: &[NamedFact], fact: &NamedFact, at: usize) -> Result<(), 
         return Err(Stop::Fault(Fault { at, end, flaw }));
     }
     if before.len() >= MAX_ENVIRONMENT {
-        return Err(Stop::at_atom(at, Flaw::Limit("at most 256 names")));
+        return Err(Stop::at_atom(at, Flaw::Limit(Limit::Environment)));
     }
     judge_fact(&fact.fact, end)
 }

@@ -8,7 +8,7 @@ use crate::judge::value::judge_number;
 use crate::member::length_place;
 use ctf_types::{MAX_ARRAYS, MAX_ELEMENTS, Members, Text};
 use std::alloc::Global;
-use tsdl_flaw::{Flaw, Remedy, Spelled, Stop};
+use tsdl_flaw::{Flaw, Limit, Remedy, Spelled, Stop};
 use tsdl_grammar::{Bracket, Number};
 
 /// The brackets so far.
@@ -23,19 +23,19 @@ struct Lengths {
 
 impl Lengths {
     /// Adds a length. Answers the limit that it passes, if there is one.
-    fn add(&mut self, length: u64) -> Option<&'static str>
+    fn add(&mut self, length: u64) -> Option<Limit>
         ensures adds { MatchOption result (Adds self.old length self.new) (λ _. PassesLimit self.old length) }
         ensures keeps { result ≡ None → KeepsLimits self.old length self.new }
     {
         let elements = self.elements.saturating_mul(length.max(1));
         if self.is_sequence && length == 0 {
-            return Some("a sequence of elements with bits");
+            return Some(Limit::SequenceElements);
         }
         if self.count >= MAX_ARRAYS {
-            return Some("at most 8 arrays in one another");
+            return Some(Limit::Arrays);
         }
         if elements > MAX_ELEMENTS {
-            return Some("at most 1048576 elements");
+            return Some(Limit::Elements);
         }
         self.count += 1;
         self.elements = elements;

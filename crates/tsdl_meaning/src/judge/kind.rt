@@ -4,7 +4,7 @@ ghost use Rattle.std.specs.Prelude.{◌∷◌, ◌++◌, IsSome, IfOk, IfErr, �
 ghost use Rattle.tsdl_meaning.specs.Words.{flat_map, kind_toks, entry_toks, next_entry_toks, word, attr_toks, attrs_toks, value_toks, entry_meaning, kind_meaning, StopsAmong, StopsWhere, IsBehindBrace, IsBehindWord, AreRanges, AddsAttribute, is_among, words_of, of_integer, tree_of, type_word, own_attrs, own_asked, is_some, order_value, base_value, clock_value, names_of, AreNamed, fits, is_fit};
 ghost use Rattle.tsdl_grammar.specs.declared.token.Mark.TheVariants as marks;
 
-use crate::enumeration::{MAX_RANGES, rises};
+use crate::enumeration::rises;
 use crate::integer::{
     BASES, INTEGER_ATTRIBUTES, INTEGER_PARTS, base_value, clock_value, order_value, orders_of,
 };
@@ -16,7 +16,8 @@ use crate::lookup::{attr, is_among};
 use crate::member::{ENCODINGS, STRING_ATTRIBUTES, STRING_PARTS, is_encoding};
 use crate::scope_rule::has_word;
 use crate::value::{one_word, word_value};
-use tsdl_flaw::{Flaw, Remedy, Spelled, Stop};
+use ctf_types::MAX_RANGES;
+use tsdl_flaw::{Flaw, Limit, Remedy, Spelled, Stop};
 use tsdl_grammar::{Attribute, Entries, Entry, Kind, Value};
 
 /// `integer { .. }`, `enum : integer { .. } { .. }` or `string { .. }`.
@@ -58,7 +59,7 @@ fn judge_ranges(first: &Entry, others: &[Entry], at: usize) -> Result<(), Stop>
     for (index, entry) in others.iter().enumerate() {
         let place = next.saturating_add(1);
         if index.saturating_add(1) >= MAX_RANGES {
-            return Err(Stop::at(place, &entry.label, Flaw::Limit("at most 65536 ranges")));
+            return Err(Stop::at(place, &entry.label, Flaw::Limit(Limit::Ranges)));
         }
         judge_range(entry, place)?;
         next = place.saturating_add(entry.length());

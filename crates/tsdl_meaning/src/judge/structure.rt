@@ -1,7 +1,7 @@
 //! The first flaw of a scope's structure: its members in order, then its alignment.
 
 ghost use Rattle.std.specs.Prelude.{◌≡◌, ◌<◌, false, List, [], ◌∷◌, length, IfOk, IfErr};
-ghost use Rattle.tsdl_meaning.specs.Words.{Contains, names_in, Kind, MemberTree, word, member_toks, struct_toks, has_member, StopsAmong, StopsWhere, AddsMember, IsFlawless, AreMembers, IsBehindMembers, IsBehindKind};
+ghost use Rattle.tsdl_meaning.specs.Words.{MAX_MEMBERS, Contains, names_in, Kind, MemberTree, word, member_toks, struct_toks, has_member, StopsAmong, StopsWhere, AddsMember, IsFlawless, AreMembers, IsBehindMembers, IsBehindKind};
 
 use crate::judge::block::Judging;
 use crate::judge::brackets::judge_brackets;
@@ -9,9 +9,9 @@ use crate::judge::kind::judge_kind;
 use crate::judge::value::judge_align;
 use crate::member::member_meaning;
 use crate::scope_rule::{ScopeRule, suits_rule, type_asked};
-use crate::structure::{MAX_MEMBERS, has_member};
-use ctf_types::{Members, Text};
-use tsdl_flaw::{Fault, Flaw, Remedy, Spelled, Stop};
+use crate::structure::has_member;
+use ctf_types::{MAX_MEMBERS, Members, Text};
+use tsdl_flaw::{Fault, Flaw, Limit, Remedy, Spelled, Stop};
 use tsdl_grammar::{MemberTree, Structure};
 
 /// `"struct" "{" { member } "}" [ "align" "(" number ")" ]`.
@@ -71,13 +71,13 @@ fn judge_member_name(members: &Members, name: &Text, at: usize) -> Result<(), St
     ensures fault { IfErr result (λ s. (done : List MemberTree) (kind : Kind) → AreMembers done members.now → StopsWhere (IsBehindKind done kind) at (word name.now ∷ []) s) }
     ensures fresh { IfOk result (λ _. Contains (names_in members.now) name.now → ⊥) }
     ensures new { IfOk result (λ _. has_member name.now members.now ≡ false) }
-    ensures few { IfOk result (λ _. length members.now < 1024) }
+    ensures few { IfOk result (λ _. length members.now < MAX_MEMBERS) }
 {
     if has_member(members, name.as_str()) {
         return Err(Stop::at_atom(at, Flaw::Duplicate));
     }
     if members.len() >= MAX_MEMBERS {
-        return Err(Stop::at_atom(at, Flaw::Limit("at most 1024 members")));
+        return Err(Stop::at_atom(at, Flaw::Limit(Limit::Members)));
     }
     Ok(())
 }

@@ -9,7 +9,7 @@ use crate::structure::alignment;
 use crate::value::{flag_value, name_value, natural, text_value, uuid_value, whole, word_value};
 use ctf_types::{LARGEST_ALIGN, Text};
 use std::alloc::Global;
-use tsdl_flaw::{Flaw, Remedy, Stop};
+use tsdl_flaw::{Flaw, Limit, Remedy, Stop};
 use tsdl_grammar::{Number, Value};
 
 /// The number of a value that has to be one.
@@ -63,7 +63,7 @@ pub(crate) fn judge_align(number: &Number, at: usize) -> Result<(), Stop>
         return Ok(());
     }
     if align > LARGEST_ALIGN && align.is_power_of_two() {
-        return Err(Stop::at(at, number, Flaw::Limit("an alignment of at most 4096 bits")));
+        return Err(Stop::at(at, number, Flaw::Limit(Limit::Alignment)));
     }
     Err(Stop::expected(at, number, "a power of two"))
 }

@@ -6,8 +6,10 @@ use Rattle.conf_laws.proofs.FirstFlawLaws.{first_found}
 use Rattle.conf_laws.proofs.TableFlawLaws.{none_left, none_refused}
 use Rattle.conf_laws.proofs.Traces.{tree_said}
 use Rattle.conf_tree.specs.Flaw.{flaw_of, IsMemory}
-use Rattle.conf_check.specs.Judgement.{IsJudgedTo, IsFirstFlawOf}
+use Rattle.conf_check.specs.FirstFlaw.{IsFirstFlawOf}
+use Rattle.conf_check.specs.Judgement.{IsJudgedTo}
 use Rattle.conf_check.proofs.ConfigurationLaws.{configuration_says, configuration_allowed, configuration_refused, memory_or, only_memory}
+use Rattle.conf_check.proofs.FirstOfWhole.{first_of_whole}
 use Rattle.conf_check.proofs.judgement.check.Goals as goal
 
 pub draft_of-requires : goal.draft_of-requires
@@ -29,7 +31,7 @@ returns-in_err-whole c =
     let fault = c.in_err-whole.field-0.0 in
     let p = err_from_is_err_and c.from_residual-in_err-whole.result c.from_residual-in_err-whole.ensures.1 in
     let none = none_refused (configuration_flaws d) c.in_ok-check_objects.ensures in
-    let first : IsMemory fault ⊎ IsFirstFlawOf d c.args.number (flaw_of fault) = memory_or c.in_err-whole.ensures (IsFirstFlawOf.of_the_whole c.in-Ok.draft (λ flaw. none_left d none flaw) c.in-Ok.ensures) in
+    let first : IsMemory fault ⊎ IsFirstFlawOf d c.args.number (flaw_of fault) = memory_or c.in_err-whole.ensures (λ e. IsFirstFlawOf.of_the_whole c.in-Ok.draft (λ flaw. none_left d none flaw) c.in-Ok.ensures (first_of_whole c.args.number d c.in-Ok.draft (flaw_of fault) c.args.tree.ordered c.in-Ok.ensures e)) in
     rw (p.1, p.2) (record { rows = tt; allowed = tt; first = first; refused = memory_or first (configuration_refused d c.args.number (flaw_of fault)); only = only_memory d c.args.number fault first })
 
 pub returns : goal.returns

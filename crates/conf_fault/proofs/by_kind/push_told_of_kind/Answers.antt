@@ -1,7 +1,8 @@
 use Rattle.std.proofs.Common.{◌≡◌, ℕ, List, refl, string_bytes, subst}
 use Rattle.std.specs.Prelude.{OnOk, Some}
 use Rattle.conf_fault.specs.Explanation.{Adds}
-use Rattle.conf_fault.specs.Wanted.{IsKnownName, IsOneOf, IsToldOfKind, alias_thing, end_of, limit_words, names_of}
+use Rattle.conf_fault.specs.Wanted.{IsKnownName, IsOneOf, IsToldOfKind, alias_map, alias_thing, limit_words, names_of}
+use Rattle.conf_fault.specs.Found.{end_of}
 use Rattle.conf_fault.proofs.WantedLemmas.{adds_same, told_of_others}
 use Rattle.conf_fault.proofs.by_kind.push_told_of_kind.Goals as goal
 
@@ -20,7 +21,7 @@ pub returns-in-NoSuchAlias : goal.returns-in-NoSuchAlias
 unfolding IsToldOfKind
 returns-in-NoSuchAlias c =
     let now = string_bytes c.push_known_alias.new.said in
-    rw c.in-NoSuchAlias.is (subst (λ (own : List ℕ). OnOk c.push_known_alias.result (Adds (IsKnownName (alias_thing own c.args.found.now.content) own) (string_bytes c.args.said.now) now))
+    rw c.in-NoSuchAlias.is (subst (λ (own : List ℕ). OnOk c.push_known_alias.result (Adds (IsKnownName c.args.found.now.source.text.now (alias_thing own c.args.found.now.content) (alias_map c.args.found.now.content) own) (string_bytes c.args.said.now) now))
     c.own_alias.ensures c.push_known_alias.ensures)
 
 pub returns-in-NoClock : goal.returns-in-NoClock
@@ -39,6 +40,6 @@ returns-in-Limit c =
 
 pub returns-in_default : goal.returns-in_default
 returns-in_default c =
-    adds_same c.push_expected.result (IsToldOfKind c.args.kind c.args.path.now (end_of c.args.found.now)) _ _ _
-    (told_of_others _ _ _ _ c.in_default.not-Unknown c.in_default.not-OutOfRange c.in_default.not-NoSuchAlias c.in_default.not-NoClock c.in_default.not-FieldTooSmall c.in_default.not-Limit refl)
+    adds_same c.push_expected.result (IsToldOfKind c.args.found.now.source.text.now c.args.kind c.args.path.now (end_of c.args.found.now)) _ _ _
+    (told_of_others _ _ _ _ _ c.in_default.not-Unknown c.in_default.not-OutOfRange c.in_default.not-NoSuchAlias c.in_default.not-NoClock c.in_default.not-FieldTooSmall c.in_default.not-Limit refl)
     c.push_expected.ensures

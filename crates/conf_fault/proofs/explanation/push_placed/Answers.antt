@@ -1,6 +1,7 @@
 use Rattle.std.proofs.Common.{◌++◌, string_bytes, refl, ◌∙◌, ap, sym, subst}
 use Rattle.std.specs.Prelude.{codes}
 use Rattle.conf_fault.specs.Explanation.{IsPlaced, IsWanted, path_words, place_words}
+use Rattle.conf_fault.specs.declared.source.Source.{Source}
 use Rattle.conf_fault.proofs.Adding.{added, behind}
 use Rattle.conf_fault.proofs.explanation.push_placed.Goals as goal
 
@@ -25,6 +26,6 @@ returns c =
       lies = (c.line_column.result, c.line_column.ensures.lies, refl);
       in_alias = alias.1;
       stands = standing.1;
-      expects = subst (IsWanted fault) (sym c.as_str.ensures.value) c.in_ok-wanted_words.ensures;
+      expects = subst (IsWanted c.args.source.text.now fault) (sym c.as_str.ensures.value) (subst (λ (s : Source). IsWanted s.text.now fault (string_bytes c.in_ok-wanted_words.field-0)) c.in_ok-found.ensures.source c.in_ok-wanted_words.ensures);
       is = refl;
     })

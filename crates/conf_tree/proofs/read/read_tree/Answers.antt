@@ -1,6 +1,6 @@
 use Rattle.serde_json.specs.View.{view}
 use Rattle.std.proofs.lemmas.Result.{err_from_is_err_and}
-use Rattle.conf_tree.specs.Walk.{max_levels}
+use Rattle.conf_tree.specs.declared.limits.TheConstants.{MAX_LEVELS}
 use Rattle.conf_tree.proofs.Flaws.{flawless, read_holds, accepted}
 use Rattle.conf_tree.proofs.read.read_tree.Goals as goal
 
@@ -11,5 +11,5 @@ returns-in_err-check_value-clause-holds c =
 
 pub invariant_of-result : goal.invariant_of-result
 invariant_of-result c =
-    let sound = flawless (view c.in-Ok.value) max_levels (accepted _ c.in_ok-check_value.ensures.first) in
+    let sound = flawless (view c.in-Ok.value) MAX_LEVELS (accepted _ c.in_ok-check_value.ensures.first) in
     record { nested = sound.0; whole = sound.1; ordered = c.in_ok-check_value.ensures.ordered }

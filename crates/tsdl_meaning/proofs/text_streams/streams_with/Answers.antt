@@ -5,7 +5,7 @@ use Rattle.tsdl_meaning.proofs.NumberOrder.{as_at_first, none_in_front, own_grou
 use Rattle.tsdl_meaning.proofs.text_streams.streams_with.Goals as goal
 
 pub loop-rest-init : goal.loop-rest-init
-loop-rest-init c = (none_in_front c.new-made.result _ c.new-made.ensures, c.requires, as_at_first c.args.groups c.args.streams.now)
+loop-rest-init c = (none_in_front c.in_ok-made.made _ c.in_ok-made.ensures, c.requires, as_at_first c.args.groups c.args.streams.now)
 
 pub loop-rest-preserved : goal.loop-rest-preserved
 loop-rest-preserved c =

@@ -5,7 +5,7 @@ use Rattle.tsdl_meaning.proofs.Fronts.{next_item}
 use Rattle.tsdl_meaning.proofs.FlawlessItems.{Items, with_attribute, with_scope, no_items, items_flawless}
 use Rattle.tsdl_meaning.proofs.JudgedParts.{handed, in_item, in_part}
 use Rattle.tsdl_meaning.proofs.JudgedLedgers.{noted_more}
-use Rattle.tsdl_meaning.proofs.StopsInAttributes.{are_named, attribute_in, list_opening, scope_named}
+use Rattle.tsdl_meaning.proofs.StopsInAttributes.{are_named, attribute_named, list_opening, scope_named}
 use Rattle.tsdl_meaning.proofs.judge.block.judge_items.Goals as goal
 use Rattle.tsdl_meaning.proofs.judge.block.judge_items.Goals.{in-Attribute+in_ok-judge_attribute-in-Attribute, in-Scope+in_ok-judge_scope-in-Scope}
 
@@ -20,7 +20,7 @@ returns-in_err-judge_attribute-in-Attribute-clause-fault c =
     let stop = c.in_err-judge_attribute-in-Attribute.field-0.0 in
     handed c.from_residual.result stop (StopsWhere (λ (front : List Atom). AreNoted front judging.ledger.now) c.args.at toks) c.from_residual.ensures.1
     (λ front behind noted.
-    let named = are_named item_toks attr_in (λ a. a.name) marks.Equals front (list_opening w) c.loop-item.attributes.names done attribute_in c.loop-item.invariant.flawless.attributes.named.kept in
+    let named = are_named attr_in (λ a. a.name) marks.Equals front w c.loop-item.attributes.names done attribute_named c.loop-item.invariant.flawless.attributes.named.kept in
     in_item item_toks items c.loop-item.item-index c.item-item.result toks (list_opening w) (mark marks.CloseBrace ∷ []) front behind c.args.at c.loop-item.next stop (omega arith) c.item-item.is refl
     c.loop-item.invariant.place
     (λ after.
@@ -38,7 +38,7 @@ returns-in_err-judge_scope-in-Scope-clause-fault c =
     let stop = c.in_err-judge_scope-in-Scope.field-0.0 in
     handed c.from_residual-in_err-judge_scope-in-Scope.result stop (StopsWhere (λ (front : List Atom). AreNoted front judging.ledger.now) c.args.at toks) c.from_residual-in_err-judge_scope-in-Scope.ensures.1
     (λ front behind noted.
-    let named = are_named item_toks scope_in (λ s. s.name) marks.Assign front (list_opening w) c.loop-item.scopes.names done scope_named c.loop-item.invariant.flawless.scopes.named.kept in
+    let named = are_named scope_in (λ s. s.name) marks.Assign front w c.loop-item.scopes.names done scope_named c.loop-item.invariant.flawless.scopes.named.kept in
     in_item item_toks items c.loop-item.item-index c.item-item.result toks (list_opening w) (mark marks.CloseBrace ∷ []) front behind c.args.at c.loop-item.next stop (omega arith) c.item-item.is refl
     c.loop-item.invariant.place
     (λ after.

@@ -1,10 +1,9 @@
-use Rattle.std.proofs.Common.{List, arith, ◌∷◌, ◌++◌, map, take, refl, sym, ◌∙◌, subst, codes, []}
-use Rattle.std.proofs.lemmas.List.Concat.{flat_map_single}
+use Rattle.std.proofs.Common.{List, arith, ◌∷◌, ◌++◌, take, refl, subst, codes, []}
 use Rattle.tsdl_grammar.specs.declared.token.Mark.TheVariants as marks
-use Rattle.tsdl_meaning.proofs.TextWords.{Attribute, HasNames, StandsBehind, StopsAmong, attr, attr_toks, attrs_toks, behind_item, flat_map, mark, map-id, own_asked, own_attrs, take_all, type_word, word, written}
+use Rattle.tsdl_meaning.proofs.TextWords.{Attribute, StandsBehind, StopsAmong, attr, attr_toks, attrs_toks, behind_item, flat_map, mark, own_asked, own_attrs, take_all, type_word, word}
 use Rattle.tsdl_meaning.proofs.Fronts.{next_item}
 use Rattle.tsdl_meaning.proofs.JudgedParts.{handed, in_item, in_part}
-use Rattle.tsdl_meaning.proofs.StopsInAttributes.{are_named, attribute_named, list_opening}
+use Rattle.tsdl_meaning.proofs.StopsInAttributes.{attributes_named, list_opening}
 use Rattle.tsdl_meaning.proofs.FlawlessTypes.{Own, own_more, type_means, seen}
 use Rattle.tsdl_meaning.proofs.judge.kind.judge_attributes.Goals as goal
 use Rattle.tsdl_meaning.proofs.judge.kind.judge_attributes.Goals.{in-Integer+else-is_none, in-Text-1}
@@ -17,16 +16,13 @@ returns-in_err-judge_attribute-clause-fault c =
     let done = take c.loop-attribute.attribute-index attrs in
     let names = c.loop-attribute.names.names in
     let stop = c.in_err-judge_attribute.field-0.0 in
-    let kept =
-    subst (λ (l : List Attribute). HasNames names (map (λ (a : Attribute). written a.name) l)) (sym (flat_map_single (λ (a : Attribute). a) done ∙ map-id done)) c.loop-attribute.invariant.own.attributes.named.kept
-    in
     handed c.from_residual.result stop (StopsAmong c.args.at toks) c.from_residual.ensures.1
     (λ front behind.
     in_item attr_toks attrs c.loop-attribute.attribute-index c.attribute-item.result toks (list_opening w) (mark marks.CloseBrace ∷ []) front behind c.args.at c.loop-attribute.next stop (omega arith)
     c.attribute-item.is refl c.loop-attribute.invariant.stands
     (λ after.
     c.in_err-judge_attribute.ensures.fault (front ++ (list_opening w ++ flat_map attr_toks done)) after
-    (are_named attr_toks (λ a. a ∷ []) (λ a. a.name) marks.Equals front (list_opening w) names done attribute_named kept)))
+    (attributes_named front w names done c.loop-attribute.invariant.own.attributes.named.kept)))
 
 pub loop-attribute-preserved : goal.loop-attribute-preserved
 loop-attribute-preserved c =

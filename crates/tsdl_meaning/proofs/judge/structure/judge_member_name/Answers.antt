@@ -1,5 +1,5 @@
-use Rattle.std.proofs.Common.{ℕ, List, sym, ap, ◌∙◌, arith}
-use Rattle.tsdl_meaning.proofs.TextWords.{has_member, word}
+use Rattle.std.proofs.Common.{ℕ, List, Contains, subst, arith}
+use Rattle.tsdl_meaning.proofs.TextWords.{names_in, word}
 use Rattle.tsdl_meaning.proofs.StopsInMembers.{member_twice, member_many}
 use Rattle.tsdl_meaning.proofs.judge.structure.judge_member_name.Goals as goal
 
@@ -7,7 +7,7 @@ pub returns-then-has_member-clause-fault : goal.returns-then-has_member-clause-f
 returns-then-has_member-clause-fault c = λ done kind same front behind ends.
     let members = c.args.members.now in
     let name = c.args.name.now in
-    let there = ap (λ (w : List ℕ). has_member w members) (sym c.as_str.ensures) ∙ sym c.has_member.ensures.is ∙ c.if-has_member.true in
+    let there = subst (λ (w : List ℕ). Contains (names_in members) w) c.as_str.ensures (c.has_member.ensures.found.0 c.if-has_member.true) in
     c.at_atom.ensures front behind (word name) (member_twice done members kind name front same there ends)
 
 pub returns-then-len-ge-MAX_MEMBERS-clause-fault : goal.returns-then-len-ge-MAX_MEMBERS-clause-fault

@@ -1,0 +1,16 @@
+-- The words that a fault offers in place of one that is not read.
+use Rattle.std.specs.Prelude.{ℕ, List, [], ◌∷◌, ◌++◌, Option, None, Some, codes}
+use Rattle.ctf_types.specs.declared.ByteOrder.{ByteOrder}
+use Rattle.tsdl_grammar.specs.IntegerMeaning.{order_words}
+
+-- words as a sentence offers them
+unfoldable pub offered : List (List ℕ) → List ℕ
+offered [] = []
+offered (w ∷ []) = codes "`" ++ (w ++ codes "`")
+offered (w ∷ v ∷ []) = codes "`" ++ (w ++ (codes "` or `" ++ (v ++ codes "`")))
+offered (w ∷ v ∷ u ∷ ws) = codes "`" ++ (w ++ (codes "`, " ++ offered (v ∷ u ∷ ws)))
+
+-- the words of a byte order that an integer may have: of the trace's own one, where that is known
+abbrev pub orders_offered : Option ByteOrder → List ℕ
+orders_offered None = offered (codes "native" ∷ [])
+orders_offered (Some order) = offered (order_words order)
