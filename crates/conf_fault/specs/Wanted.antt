@@ -10,8 +10,8 @@ use Rattle.conf_tree.specs.declared.step.Step.TheVariants.{Key}
 use Rattle.conf_tree.specs.declared.fault.ConfFault.{ConfFault}
 use Rattle.conf_tree.specs.declared.fault_kind.FaultKind.{FaultKind}
 use Rattle.conf_tree.specs.declared.fault_kind.FaultKind.TheVariants as kinds
-use Rattle.conf_tree.specs.declared.limits.TheConstants.{MAX_LABEL_BYTES, MAX_VALUES}
-use Rattle.ctf_types.specs.declared.limits.TheConstants.{MAX_ARRAYS, MAX_CONFIG_RANGES, MAX_ELEMENTS}
+use Rattle.conf_tree.specs.declared.limits.TheConstants.{MAX_VALUES}
+use Rattle.ctf_types.specs.declared.limits.TheConstants.{MAX_ARRAYS, MAX_CONFIG_RANGES, MAX_ELEMENTS, MAX_LABEL_BYTES}
 use Rattle.conf_table.specs.declared.place.Place.{Place}
 use Rattle.conf_table.specs.declared.place.Place.TheVariants as places
 use Rattle.conf_table.specs.declared.row.Content.{Content}

@@ -8,8 +8,8 @@ ghost use Rattle.conf_fault.specs.Wanted.{limit_words, most_words, size_words};
 use crate::expected::push_expected;
 use crate::found::Found;
 use conf_table::{Content, Place, entries};
-use conf_tree::{MAX_LABEL_BYTES, MAX_VALUES};
-use ctf_types::{MAX_ARRAYS, MAX_CONFIG_RANGES, MAX_ELEMENTS};
+use conf_tree::MAX_VALUES;
+use ctf_types::{MAX_ARRAYS, MAX_CONFIG_RANGES, MAX_ELEMENTS, MAX_LABEL_BYTES};
 use std::alloc::{AllocError, Global};
 
 /// Adds what a value can hold at most.

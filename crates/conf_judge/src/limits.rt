@@ -12,9 +12,9 @@ ghost use Rattle.conf_judge.specs.Limits.{within_limit, elements as elements_of,
 use crate::numbers::natural_in;
 use crate::places::{item_content, place_of_properties};
 use conf_table::{Content, Keys, Place, class_of, content_at, entries_at};
-use conf_tree::{ConfFault, FaultKind, MAX_LABEL_BYTES};
+use conf_tree::{ConfFault, FaultKind};
 use conf_values::as_natural;
-use ctf_types::{MAX_ARRAYS, MAX_CONFIG_RANGES, MAX_ELEMENTS};
+use ctf_types::{MAX_ARRAYS, MAX_CONFIG_RANGES, MAX_ELEMENTS, MAX_LABEL_BYTES};
 use serde_json::{Map, Value};
 use std::alloc::Global;
 

@@ -9,8 +9,7 @@ pub use Rattle.std.specs.{Cmp.Lexicographic.slice_cmp, List.{All, AllByRecursion
 unfoldable pub use Rattle.std.specs.{List.IsDistinct, List.Sorted.IsStrictlySortedBy}
 pub use Rattle.conf_tree.specs.{Flaw.{Flaw, Place as PathPart, here, index, key, within}, Order.{AllAbove, Ascends, IsInOrder, ItemsAscend, MembersAscend}}
 pub use Rattle.conf_tree.specs.{Reading.{at, flag_of, needed, optional, text_of, wanted, ◌>>=◌}, Walk.{HasMember, refusal}}
-pub use Rattle.conf_tree.specs.declared.limits.TheConstants.{MAX_LABEL_BYTES, MAX_TEXT_BYTES}
-pub use Rattle.ctf_types.specs.declared.limits.TheConstants.{LARGEST_ALIGN, MAX_ARRAYS, MAX_CLOCK_TYPES, MAX_CONFIG_MEMBERS, MAX_CONFIG_RANGES, MAX_ELEMENTS, MAX_ENVIRONMENT, MAX_EVENT_TYPES, MAX_STREAM_TYPES}
+pub use Rattle.ctf_types.specs.declared.limits.TheConstants.{LARGEST_ALIGN, MAX_ARRAYS, MAX_CLOCK_TYPES, MAX_CONFIG_MEMBERS, MAX_CONFIG_RANGES, MAX_ELEMENTS, MAX_ENVIRONMENT, MAX_EVENT_TYPES, MAX_LABEL_BYTES, MAX_STREAM_TYPES, MAX_TEXT_BYTES}
 pub use Rattle.conf_tree.specs.declared.fault_kind.FaultKind.{FaultKind, TheVariants.{Limit, Missing, NameClash, OutOfRange, ReservedName, Unknown, WrongKind}}
 unfoldable pub use Rattle.conf_tree.specs.Reading.{whole_of}
 pub use Rattle.conf_values.proofs.LeafFlawLaws.{control_there, found_there, lacks_refused, listed as word_listed, name_refused, none_refused, plain_name_refused}

@@ -2,9 +2,10 @@
 
 use crate::objects::{HIGHEST, HIGHEST_UNSIGNED, LOWEST};
 use crate::{Content, Entries, Keys, Place};
-use conf_tree::{MAX_ALIASES, MAX_TEXT_BYTES};
+use conf_tree::MAX_ALIASES;
 use ctf_types::{
     MAX_CLOCK_TYPES, MAX_CONFIG_MEMBERS, MAX_ENVIRONMENT, MAX_EVENT_TYPES, MAX_STREAM_TYPES,
+    MAX_TEXT_BYTES,
 };
 
 pub(crate) static ENVIRONMENT: Entries = Entries {

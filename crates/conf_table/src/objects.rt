@@ -6,7 +6,7 @@ use crate::Content::{
 use crate::Place::*;
 use crate::Presence::{self, Needed, Number, OneOrder, Optional, WithClock, WithIdentifier};
 use crate::{Row, Words};
-use conf_tree::MAX_TEXT_BYTES;
+use ctf_types::MAX_TEXT_BYTES;
 
 /// The lowest and the highest number of 64 bits, one of which is the sign.
 pub(crate) const LOWEST: i128 = -9223372036854775808;

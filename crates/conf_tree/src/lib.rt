@@ -15,7 +15,7 @@ mod walk;
 pub use at::At;
 pub use fault::ConfFault;
 pub use fault_kind::FaultKind;
-pub use limits::{MAX_ALIASES, MAX_LABEL_BYTES, MAX_LEVELS, MAX_TEXT_BYTES, MAX_VALUES};
+pub use limits::{MAX_ALIASES, MAX_LEVELS, MAX_VALUES};
 pub use lookup::{flag, list, member, needed, object, optional, text, whole};
 pub use path::Path;
 pub use read::read_tree;

@@ -9,9 +9,3 @@ pub const MAX_VALUES: usize = 4096;
 
 /// The most field type aliases, and the most log level aliases.
 pub const MAX_ALIASES: usize = 1024;
-
-/// The most bytes of a text that people read: of an environment entry, a description, or a label.
-pub const MAX_TEXT_BYTES: u64 = 4096;
-
-/// The most bytes of a label of an enumeration, which is such a text.
-pub const MAX_LABEL_BYTES: u64 = MAX_TEXT_BYTES;

@@ -10,6 +10,7 @@ use borrow.Author.Differences.{le-false, below_in}
 use Rattle.serde_json.specs.Data.{Data, Num, unsigned, negative, float, Members}
 use Rattle.serde_json.specs.Find.{get_member, as_object, as_array, as_str, as_bool, as_number, as_integer}
 use Rattle.ctf_types.specs.Names.{is_identifier, unused_keywords, used_keywords}
+use Rattle.ctf_types.specs.declared.limits.TheConstants.{MAX_NAME_BYTES}
 use Rattle.conf_tree.specs.declared.fault_kind.FaultKind.TheVariants.{WrongKind, NotWhole, OutOfRange, Missing, BadName, ReservedName}
 use Rattle.conf_tree.specs.Flaw.{Flaw, Place as Step, key, here, within}
 use Rattle.conf_tree.specs.Reading.{◌>>=◌, at, wanted, object_of, list_of, text_of, flag_of, whole_or_not, whole_of, needed}
@@ -139,10 +140,10 @@ control_there (x ∷ s) e =
 pub name_refused : (name : List ℕ) (flaw : Flaw) → name_of name ≡ Err flaw → IsNoName name flaw
 unfolding name_of
 name_refused name flaw e =
-    let told = refused_test (is_identifier name && nat_le (length name) 255) tt (here BadName) flaw e in
-    holds_of (IsNoName name) (here BadName) flaw told.1 (elim (and_cases (is_identifier name) (nat_le (length name) 255) told.0) [
+    let told = refused_test (is_identifier name && nat_le (length name) MAX_NAME_BYTES) tt (here BadName) flaw e in
+    holds_of (IsNoName name) (here BadName) flaw told.1 (elim (and_cases (is_identifier name) (nat_le (length name) MAX_NAME_BYTES) told.0) [
       | inl none ↦ IsNoName.no_identifier none
-      | inr long ↦ IsNoName.too_long (leb-false (length name) 255 long)
+      | inr long ↦ IsNoName.too_long (leb-false (length name) MAX_NAME_BYTES long)
     ])
 
 -- a name that a list has by its bytes is one of the list

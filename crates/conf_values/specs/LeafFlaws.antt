@@ -5,6 +5,7 @@ use Rattle.serde_json.specs.Data.{Data, Num, float}
 use Rattle.serde_json.specs.Find.{as_object, as_array, as_str, as_bool, as_number, as_integer}
 use Rattle.uuid.specs.Text.{parsed}
 use Rattle.ctf_types.specs.Names.{is_identifier, unused_keywords, used_keywords}
+use Rattle.ctf_types.specs.declared.limits.TheConstants.{MAX_NAME_BYTES}
 use Rattle.conf_tree.specs.declared.fault_kind.FaultKind.TheVariants.{WrongKind, NotWhole, OutOfRange, BadName, ReservedName}
 use Rattle.conf_tree.specs.Flaw.{Flaw, here}
 
@@ -61,7 +62,7 @@ pub data IsNoWordOf (words : List (List ℕ)) (d : Data) : Flaw → Type 0 where
 -- no identifier, or one of more than 255 bytes
 pub data IsNoName (name : List ℕ) : Flaw → Type 0 where
   no_identifier : is_identifier name ≡ false → IsNoName name (here BadName)
-  too_long : 255 < length name → IsNoName name (here BadName)
+  too_long : MAX_NAME_BYTES < length name → IsNoName name (here BadName)
 
 -- a reserved word
 abbrev pub IsReserved : List ℕ → Type 0

@@ -6,10 +6,11 @@ use Rattle.conf_tree.specs.declared.fault_kind.FaultKind.TheVariants.{BadName, R
 use Rattle.conf_tree.specs.Flaw.{Flaw, here}
 use Rattle.conf_tree.specs.Reading.{◌>>=◌}
 use Rattle.ctf_types.specs.Names.{is_identifier, unused_keywords, used_keywords}
+use Rattle.ctf_types.specs.declared.limits.TheConstants.{MAX_NAME_BYTES}
 
 -- a name: an identifier of 255 bytes at most
 unfoldable pub name_of : List ℕ → Result ⊤ Flaw
-name_of s = if is_identifier s && nat_le (length s) 255 then Ok tt else Err (here BadName)
+name_of s = if is_identifier s && nat_le (length s) MAX_NAME_BYTES then Ok tt else Err (here BadName)
 
 unfoldable pub is_reserved : List ℕ → Bool
 is_reserved s = list_any (bytes_eq s) unused_keywords || list_any (bytes_eq s) used_keywords

@@ -4,7 +4,7 @@ ghost use Rattle.conf_tree.specs.Reading.{Gives};
 ghost use Rattle.conf_values.specs.Name.{name_of, plain_name_of, is_reserved as is_reserved_of};
 
 use conf_tree::{ConfFault, FaultKind};
-use ctf_types::{is_identifier, is_unused_keyword};
+use ctf_types::{MAX_NAME_BYTES, is_identifier, is_unused_keyword};
 use std::alloc::Global;
 
 /// Refuses a name that is no identifier of 255 bytes at most.
@@ -12,7 +12,7 @@ use std::alloc::Global;
 pub fn check_name(alloc: Global, name: &str) -> Result<(), ConfFault>
     ensures { Gives (λ _. tt) result (name_of name.now) }
 {
-    if is_identifier(name) && name.len() <= 255 {
+    if is_identifier(name) && name.len() <= MAX_NAME_BYTES {
         Ok(())
     } else {
         Err(ConfFault::here(alloc, FaultKind::BadName))

@@ -3,6 +3,7 @@
 use Rattle.std.specs.Prelude.{◌≡◌, ℕ, ◌≤◌, List, [], ◌∷◌, Bool, false, IsTrue, ◌&&◌, ◌||◌, nat_le, nat_eq, length, codes}
 use Rattle.std.specs.List.{list_all, list_any}
 use Rattle.std.specs.Str.{bytes_eq}
+use Rattle.ctf_types.specs.declared.limits.TheConstants.{MAX_NAME_BYTES, MAX_TEXT_BYTES}
 
 -- a letter of ASCII or an underscore
 abbrev pub is_letter : ℕ → Bool
@@ -36,7 +37,7 @@ pub record IsMetadataName (name : List ℕ) : Type 0 where
 -- a name in a configuration: an identifier of at most 255 bytes
 pub record IsConfigName (name : List ℕ) : Type 0 where
   pub identifier : IsTrue (is_identifier name)
-  pub short : length name ≤ 255
+  pub short : length name ≤ MAX_NAME_BYTES
 
 -- a name of a member, a clock type or an environment entry of a configuration: no keyword either
 pub record IsPlainName (name : List ℕ) : Type 0 where
@@ -46,5 +47,5 @@ pub record IsPlainName (name : List ℕ) : Type 0 where
 
 -- a text of a configuration: at most 4,096 bytes, and no control character but newline and tab
 pub record IsConfigText (text : List ℕ) : Type 0 where
-  pub short : length text ≤ 4096
+  pub short : length text ≤ MAX_TEXT_BYTES
   pub printable : IsTrue (list_all (λ c. nat_le 32 c || nat_eq c 10 || nat_eq c 9) text)

@@ -32,3 +32,12 @@ pub const MAX_STREAM_TYPES: usize = 64;
 
 /// The most event record types of a data stream type in a configuration.
 pub const MAX_EVENT_TYPES: usize = 1024;
+
+/// The most bytes of a name in a configuration, and of a stream's name.
+pub const MAX_NAME_BYTES: usize = 255;
+
+/// The most bytes of a text of a configuration that people read: of an environment entry, a description, or a label.
+pub const MAX_TEXT_BYTES: u64 = 4096;
+
+/// The most bytes of a label of an enumeration, which is such a text.
+pub const MAX_LABEL_BYTES: u64 = MAX_TEXT_BYTES;

@@ -5,14 +5,11 @@ ghost use Rattle.trace_stack.specs.StreamNames.{is_stream_name as is_stream_name
 ghost use Rattle.trace_text.specs.Names.{first_refused};
 
 use crate::script::{Script, ScriptStream};
-use ctf_types::is_identifier;
+use ctf_types::{MAX_NAME_BYTES, is_identifier};
 use trace_stack::NameFault;
 
 /// The most streams of a session.
 const MOST_STREAMS: usize = 64;
-
-/// The most bytes of a name.
-const LONGEST_NAME: usize = 255;
 
 /// The index of the first stream that a session refuses by its name behind those before it, and why. None where it refuses none.
 pub fn names_fault(script: &Script) -> Option<(usize, NameFault)>
@@ -45,7 +42,7 @@ fn name_fault(before: &[ScriptStream], name: &str) -> Option<NameFault>
 fn is_stream_name(name: &str) -> bool
     ensures { result ≡ is_stream_name_of name.now }
 {
-    is_identifier(name) && name.len() <= LONGEST_NAME && name != "metadata"
+    is_identifier(name) && name.len() <= MAX_NAME_BYTES && name != "metadata"
 }
 
 fn is_taken(streams: &[ScriptStream], name: &str) -> bool
