@@ -23,4 +23,5 @@ pub mod KnownClocks
 pub mod BlockOrder
 pub mod ItemOrder
 pub mod FieldOrder
+pub mod TextOrder
 pub mod LengthParts

@@ -83,3 +83,7 @@ abbrev pub Denotes : List ℕ → Metadata → Type 0
 Denotes text metadata =
     HasMagicLine text × (meant : List Atom) × Reads text meant × (list_all is_read meant ≡ true)
     × ((bs : List Block) × (meant ≡ text_toks bs) × (text_meta bs ≡ Some metadata))
+
+-- the text is one of these blocks: it begins with its magic line, and its tokens spell them
+abbrev pub IsTextOf : List ℕ → List Block → Type 0
+IsTextOf text bs = HasMagicLine text × (meant : List Atom) × Reads text meant × (list_all is_read meant ≡ true) × (meant ≡ text_toks bs)

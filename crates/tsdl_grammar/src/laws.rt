@@ -7,7 +7,7 @@ ghost use Rattle.ctf_types.specs.{declared.IntType.IntType, declared.Length.TheV
 ghost use Rattle.ctf_types.specs.{declared.MemberType.TheVariants.Dyn, declared.Metadata.Metadata, declared.Stream.Stream, declared.StructType.StructType};
 ghost use Rattle.tsdl_grammar.specs.{declared.token.Token.Token, declared.tree.Attribute.Attribute, declared.tree.Block.Block, declared.tree.Item.Item};
 ghost use Rattle.tsdl_grammar.specs.{declared.tree.MemberTree.MemberTree, declared.tree.Structure.Structure};
-ghost use Rattle.tsdl_grammar.specs.{Denotes.text_meta, Escapes.{escaped, unescaped}, Literals.literal_of, Lookups.attr, MemberMeaning.{member_meaning, text_meaning}};
+ghost use Rattle.tsdl_grammar.specs.{Denotes.{Denotes, IsTextOf, text_meta}, Escapes.{escaped, unescaped}, Literals.literal_of, Lookups.attr, MemberMeaning.{member_meaning, text_meaning}};
 ghost use Rattle.tsdl_grammar.specs.{StructureMeaning.struct_meaning, Tokens.{StopsAt, Tokenizes}};
 ghost use Rattle.tsdl_grammar.specs.IntegerMeaning.{Known, default_align, int_meaning};
 ghost use Rattle.tsdl_grammar.specs.BlockMeaning.{clock_meaning, stream_meaning, event_meaning};
@@ -122,6 +122,14 @@ pub fn attributes_of_fields_stand_in_any_order()
     ensures integers { (known : Known) (attrs others : List Attribute) → Reordered attrs others → int_meaning known attrs ≡ int_meaning known others }
     ensures strings { (attrs others : List Attribute) → Reordered attrs others → text_meaning (Some attrs) ≡ text_meaning (Some others) }
     ensures texts { (bs cs : List Block) → Paired SameFields bs cs → text_meta bs ≡ text_meta cs }
+{}
+
+/// So it is of texts. Of two texts of blocks in any order, of items in any order in their blocks, or of attributes in any order in
+/// the integers and strings of their structures, where the one denotes metadata the other denotes the same, but for those orders.
+pub fn texts_stand_in_any_order()
+    ensures blocks { (text other : List ℕ) (bs cs : List Block) (m : Metadata) → IsTextOf text bs → IsTextOf other cs → Reordered bs cs → text_meta bs ≡ Some m → Denotes text m × ((n : Metadata) × Denotes other n × SameButClockOrder m n) }
+    ensures items { (text other : List ℕ) (bs cs : List Block) (m : Metadata) → IsTextOf text bs → IsTextOf other cs → Paired SameItems bs cs → text_meta bs ≡ Some m → Denotes text m × ((n : Metadata) × Denotes other n × SameButEnvironmentOrder m n) }
+    ensures fields { (text other : List ℕ) (bs cs : List Block) (m : Metadata) → IsTextOf text bs → IsTextOf other cs → Paired SameFields bs cs → text_meta bs ≡ Some m → Denotes text m × Denotes other m }
 {}
 
 /// The streams of the metadata stand by number, no two of one number, and so do the events of each stream.

@@ -24,7 +24,7 @@ pub use laws::{
     integers_have_defaults, integers_need_a_size, integers_say_their_parts,
     items_stand_in_any_order, kinds_of_blocks_mix, sequences_name_their_length,
     streams_say_their_parts, streams_stand_by_number, structures_say_their_parts,
-    texts_say_their_parts, tokens_are_unique, tokens_or_a_stop,
+    texts_say_their_parts, texts_stand_in_any_order, tokens_are_unique, tokens_or_a_stop,
 };
 pub use literal::literal_value;
 pub use piece::{Cut, Piece};
