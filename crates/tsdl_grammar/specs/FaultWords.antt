@@ -2,6 +2,7 @@
 use Rattle.std.specs.Prelude.{◌≡◌, ◌≤◌, ◌<◌, ℕ, List, [], ◌++◌, length, take, drop, None, codes, IfSome, string_bytes, decimal}
 use Rattle.tsdl_grammar.specs.declared.fault.MetaFaultKind.{MetaFaultKind}
 use Rattle.tsdl_grammar.specs.declared.fault.MetaFaultKind.TheVariants as faults
+use Rattle.tsdl_grammar.specs.declared.position.TheConstants.{LONGEST_SHOWN}
 use Rattle.tsdl_grammar.specs.{Pieces.piece_at, Positions.{line_after, column_after}, WrongCharacters.{IsQuoted, IsWrongCharacter}}
 
 -- what is wrong, by the kind of the fault
@@ -20,7 +21,7 @@ kind_words faults.OutOfMemory = codes "out of memory"
 -- most 40 bytes, or the character at which none begins
 pub record IsSaidOf (bytes found : List ℕ) : Type 0 where
   pub ending : bytes ≡ [] → found ≡ codes "the end of the text"
-  pub piece : IfSome (piece_at bytes) (λ cut. cut.len ≤ 40 → IsQuoted (take cut.len bytes) found)
+  pub piece : IfSome (piece_at bytes) (λ cut. cut.len ≤ LONGEST_SHOWN → IsQuoted (take cut.len bytes) found)
   pub wrong : 0 < length bytes → piece_at bytes ≡ None → IsWrongCharacter bytes found
 
 -- what is said of a byte of a text, or of its end: its number, its line and its column, and what stands there
