@@ -1,6 +1,6 @@
 -- What is told of a fault, put together of what the calls say.
 use Rattle.std.proofs.Common.{◌≡◌, ◌≢◌, ◌<◌, ◌≤◌, ◌-◌, arith, decimal, length, take, List, [], ◌∷◌, ◌++◌, ℕ, Bool, true, false, map, refl, sym, ap, subst, append-nil}
-use Rattle.std.specs.Prelude.{not, Option, Some, None, IfSome, MatchOption, Result, is_ok, OnOk, if◌then◌else◌, codes}
+use Rattle.std.specs.Prelude.{not, Option, Some, None, MatchOption, Result, is_ok, OnOk, if◌then◌else◌, codes}
 use Rattle.std.specs.Borrow.{Bor}
 use Rattle.std.specs.Str.{bytes_eq}
 use Rattle.std.proofs.lemmas.Bool.Decides.{nat_tests}
@@ -19,8 +19,8 @@ use Rattle.conf_tree.specs.declared.fault_kind.FaultKind.TheVariants as kinds
 use Rattle.conf_tree.specs.declared.fault.ConfFault.{ConfFault}
 use Rattle.conf_fault.specs.Explanation.{Adds, fixed_words, same_words}
 use Rattle.conf_fault.specs.Expected.{classes_at, expected_words, listed}
-use Rattle.conf_fault.specs.Wanted.{IsChoice, IsHint, IsInRange, IsKnownName, IsLargestNumber, IsNearestIf, IsOneOf, IsRoom, IsTold, IsToldOfKind, end_name, few_listed, named_text, real_hint, size_words, value_words}
-use Rattle.conf_fault.specs.Found.{PathEnd, StandsIn}
+use Rattle.conf_fault.specs.Wanted.{IsChoice, IsHint, IsInRange, IsKnownName, IsLargestNumber, IsNearestIf, IsOneOf, IsRoom, IsTextThere, IsTold, IsToldOfKind, end_name, few_listed, named_text, real_hint, size_words, value_words}
+use Rattle.conf_fault.specs.Found.{PathEnd}
 use Rattle.conf_fault.specs.Names.{IsRead, known_names}
 use Rattle.conf_fault.proofs.Adding.{added, behind}
 use Rattle.serde_json.specs.Data.{Data}
@@ -37,18 +37,18 @@ one_of text words was mid now e near = (listed words ++ near.0, (near.0, near.1,
 pub none_near : (words : List (List ℕ)) (now : List ℕ) → Adds (IsNearestIf None words) now now
 none_near words now = ([], refl, sym (append-nil now))
 
-pub chosen : (text : List ℕ) (word : Option (List ℕ)) (words : List (List ℕ)) (was mid now : List ℕ) → IfSome word (StandsIn text) → Adds (IsOneOf word words) was mid → now ≡ mid ++ real_hint word
-    → Adds (IsChoice text words) was now
-chosen text word words was mid now stands told e = (told.0 ++ real_hint word, (word, told.0, stands, told.1, refl), behind was mid now told.0 (real_hint word) told.2 e)
+pub chosen : (text : List ℕ) (value : Option Data) (word : Option (List ℕ)) (words : List (List ℕ)) (was mid now : List ℕ) → IsTextThere text value word → Adds (IsOneOf word words) was mid → now ≡ mid ++ real_hint word
+    → Adds (IsChoice text value words) was now
+chosen text value word words was mid now stands told e = (told.0 ++ real_hint word, (word, told.0, stands, told.1, refl), behind was mid now told.0 (real_hint word) told.2 e)
 
 -- whether it is said that there are no real numbers
 pub reals : (text : List ℕ) (b : Bool) → bytes_eq text (codes "real") ≡ b → real_hint (Some text) ≡ (if b then codes "; there are no real numbers" else [])
 reals text b e = ap (λ b. if b then codes "; there are no real numbers" else []) e
 
-pub known : (text thing map own was s1 s2 s3 now : List ℕ) (tree : Option Data) (word : Option (List ℕ)) → IsRead text tree → IfSome word (StandsIn text)
+pub known : (text thing map own was s1 s2 s3 now : List ℕ) (tree value : Option Data) (word : Option (List ℕ)) → IsRead text tree → IsTextThere text value word
     → s1 ≡ was ++ (codes "the name of " ++ (thing ++ codes " (there are ")) → s2 ≡ s1 ++ few_listed (known_names map own tree) → s3 ≡ s2 ++ codes ")"
-    → Adds (IsNearestIf word (known_names map own tree)) s3 now → Adds (IsKnownName text thing map own) was now
-known text thing map own was s1 s2 s3 now tree word read stands e f g near =
+    → Adds (IsNearestIf word (known_names map own tree)) s3 now → Adds (IsKnownName text value thing map own) was now
+known text thing map own was s1 s2 s3 now tree value word read stands e f g near =
     let front = codes "the name of " ++ (thing ++ codes " (there are ") in
     let names = few_listed (known_names map own tree) in (
       front ++ names ++ codes ")" ++ near.0,
@@ -125,17 +125,17 @@ size_of_others _ a b c d e = refl
 pub adds_same : {T E : Type 0} (r : Result T E) (Is : List ℕ → Type 0) (was now words : List ℕ) → Is words → OnOk r (now ≡ was ++ words) → OnOk r (Adds Is was now)
 adds_same r Is was now words is h = on_ok_weaker r (λ (e : now ≡ was ++ words). (words, is, e)) h
 
-pub in_word : (text : List ℕ) (content : Option Content) (choice : Words) (position : Place) (words : List (List ℕ)) (was now : List ℕ) → content ≡ Some (contents.Word choice) → words ≡ words_of choice
-    → Adds (IsChoice text words) was now → Adds (IsInRange text content position) was now
+pub in_word : (text : List ℕ) (value : Option Data) (content : Option Content) (choice : Words) (position : Place) (words : List (List ℕ)) (was now : List ℕ) → content ≡ Some (contents.Word choice) → words ≡ words_of choice
+    → Adds (IsChoice text value words) was now → Adds (IsInRange text value content position) was now
 unfolding IsInRange
-in_word text content choice position words was now e f h =
-    subst (λ (o : Option Content). Adds (IsInRange text o position) was now) (sym e) (subst (λ (ws : List (List ℕ)). Adds (IsChoice text ws) was now) f h)
+in_word text value content choice position words was now e f h =
+    subst (λ (o : Option Content). Adds (IsInRange text value o position) was now) (sym e) (subst (λ (ws : List (List ℕ)). Adds (IsChoice text value ws) was now) f h)
 
-pub in_class : (text : List ℕ) (content : Option Content) (position : Place) (words : List (List ℕ)) (was now : List ℕ) → content ≡ Some contents.Class → words ≡ classes_at position
-    → Adds (IsChoice text words) was now → Adds (IsInRange text content position) was now
+pub in_class : (text : List ℕ) (value : Option Data) (content : Option Content) (position : Place) (words : List (List ℕ)) (was now : List ℕ) → content ≡ Some contents.Class → words ≡ classes_at position
+    → Adds (IsChoice text value words) was now → Adds (IsInRange text value content position) was now
 unfolding IsInRange
-in_class text content position words was now e f h =
-    subst (λ (o : Option Content). Adds (IsInRange text o position) was now) (sym e) (subst (λ (ws : List (List ℕ)). Adds (IsChoice text ws) was now) f h)
+in_class text value content position words was now e f h =
+    subst (λ (o : Option Content). Adds (IsInRange text value o position) was now) (sym e) (subst (λ (ws : List (List ℕ)). Adds (IsChoice text value ws) was now) f h)
 
 -- of the kinds that have no words of their own, what the table expects is told
 pub told_of_others : (text : List ℕ) (kind : FaultKind) (path : List Step) (end : PathEnd) (said : List ℕ) → kind ≢ kinds.Unknown → kind ≢ kinds.OutOfRange → kind ≢ kinds.NoSuchAlias → kind ≢ kinds.NoClock

@@ -19,6 +19,7 @@ use Rattle.conf_table.specs.declared.row.Content.TheVariants as contents
 use Rattle.conf_table.specs.Table.{entries_of, rows_of}
 use Rattle.conf_table.specs.Words.{words_of}
 use Rattle.serde_json.specs.Data.{Data}
+use Rattle.serde_json.specs.Find.{as_str}
 use Rattle.conf_fault.specs.Expected.{classes_at, expected_words, listed}
 use Rattle.conf_fault.specs.Found.{Leads, PathEnd, StandsIn, outermost}
 use Rattle.conf_fault.specs.Names.{IsRead, known_names}
@@ -124,24 +125,27 @@ abbrev pub real_hint : Option (List ℕ) → List ℕ
 real_hint None = []
 real_hint (Some text) = if bytes_eq text (codes "real") then codes "; there are no real numbers" else []
 
--- the same of a value out of range, which may be a real number; which of the words in quotes of the configuration stands there is not said
-abbrev pub IsChoice : List ℕ → List (List ℕ) → List ℕ → Type 0
-IsChoice text words said = (word : Option (List ℕ)) × (told : List ℕ) × IfSome word (StandsIn text) × IsOneOf word words told × (said ≡ told ++ real_hint word)
+-- the text that stands where the way ends: what the value there is in the tree, or where the value is inherited one of the words in quotes of the text
+abbrev pub IsTextThere : List ℕ → Option Data → Option (List ℕ) → Type 0
+IsTextThere text value word = MatchOption value (IfSome word (StandsIn text)) (λ there. word ≡ as_str there)
+
+-- the same of a value out of range, which may be a real number
+abbrev pub IsChoice : List ℕ → Option Data → List (List ℕ) → List ℕ → Type 0
+IsChoice text value words said = (word : Option (List ℕ)) × (told : List ℕ) × IsTextThere text value word × IsOneOf word words told × (said ≡ told ++ real_hint word)
 
 -- of a value out of range: one of the words of its choice, or of the classes at its position, or what the table expects of it
-unfoldable pub IsInRange : List ℕ → Option Content → Place → List ℕ → Type 0
-IsInRange text (Some (contents.Word choice)) position said = IsChoice text (words_of choice) said
-IsInRange text (Some contents.Class) position said = IsChoice text (classes_at position) said
-IsInRange text content position said = said ≡ expected_words content position
+unfoldable pub IsInRange : List ℕ → Option Data → Option Content → Place → List ℕ → Type 0
+IsInRange text value (Some (contents.Word choice)) position said = IsChoice text value (words_of choice) said
+IsInRange text value (Some contents.Class) position said = IsChoice text value (classes_at position) said
+IsInRange text value content position said = said ≡ expected_words content position
 
 -- the first 20 of some names, and how many more there are
 abbrev pub few_listed : List (List ℕ) → List ℕ
 few_listed names = if nat_le (length names) 20 then listed names else listed (take 20 names) ++ (codes " and " ++ decimal (length names - 20) ++ codes " more")
 
--- the name of a thing, with those that the map of the trace type has but the one in whose value it would stand, and the nearest of them or none; which of
--- the words in quotes of the configuration stands there is not said
-abbrev pub IsKnownName : List ℕ → List ℕ → List ℕ → List ℕ → List ℕ → Type 0
-IsKnownName text thing map own said = (tree : Option Data) × (word : Option (List ℕ)) × (nearest : List ℕ) × IsRead text tree × IfSome word (StandsIn text)
+-- the name of a thing, with those that the map of the trace type has but the one in whose value it would stand, and the nearest of them or none
+abbrev pub IsKnownName : List ℕ → Option Data → List ℕ → List ℕ → List ℕ → List ℕ → Type 0
+IsKnownName text value thing map own said = (tree : Option Data) × (word : Option (List ℕ)) × (nearest : List ℕ) × IsRead text tree × IsTextThere text value word
     × IsNearestIf word (known_names map own tree) nearest
     × (said ≡ codes "the name of " ++ (thing ++ codes " (there are ") ++ few_listed (known_names map own tree) ++ codes ")" ++ nearest)
 
@@ -201,9 +205,9 @@ names_of holder = map (λ r. r.name) (rows_of holder)
 -- what is told of a kind at the end of a path, where the way over a text ends
 unfoldable pub IsToldOfKind : List ℕ → FaultKind → List Step → PathEnd → List ℕ → Type 0
 IsToldOfKind text kinds.Unknown path end said = IsOneOf (Some (end_name path)) (names_of end.holder) said
-IsToldOfKind text kinds.OutOfRange path end said = IsInRange text end.content end.position said
-IsToldOfKind text kinds.NoSuchAlias path end said = IsKnownName text (alias_thing (own_alias path) end.content) (alias_map end.content) (own_alias path) said
-IsToldOfKind text kinds.NoClock path end said = IsKnownName text (codes "a clock type") (codes "clock-types") [] said
+IsToldOfKind text kinds.OutOfRange path end said = IsInRange text end.value end.content end.position said
+IsToldOfKind text kinds.NoSuchAlias path end said = IsKnownName text end.value (alias_thing (own_alias path) end.content) (alias_map end.content) (own_alias path) said
+IsToldOfKind text kinds.NoClock path end said = IsKnownName text end.value (codes "a clock type") (codes "clock-types") [] said
 IsToldOfKind text kinds.FieldTooSmall path end said = IsRoom (end_name path) said
 IsToldOfKind text kinds.Limit path end said = said ≡ limit_words end.content end.position
 IsToldOfKind text _ path end said = said ≡ expected_words end.content end.position
@@ -266,9 +270,9 @@ IsHint _ path hint = hint ≡ []
 abbrev pub IsTold : List ℕ → ConfFault → PathEnd → List ℕ → Type 0
 IsTold text fault end said = MatchOption (named_text fault.kind (end_name fault.path) end.content) (IsToldOfKind text fault.kind fault.path end said) (λ words. said ≡ words)
 
--- where the way along the fault's path ends
+-- where the way along the fault's path ends, from the tree of the text on
 abbrev pub IsEnd : List ℕ → ConfFault → PathEnd → Type 0
-IsEnd text fault end = Leads text outermost fault.path end
+IsEnd text fault end = (tree : Option Data) × IsRead text tree × Leads text (outermost tree) fault.path end
 
 abbrev pub IsToldAndHinted : List ℕ → ConfFault → List ℕ → Type 0
 IsToldAndHinted text fault said = (end : PathEnd) × (told : List ℕ) × (hint : List ℕ) × IsEnd text fault end × IsTold text fault end told × IsHint fault.kind fault.path hint

@@ -4,7 +4,7 @@ ghost use Rattle.std.specs.Prelude.{◌≡◌, IfOk, OnOk, Some, map, option_map
 ghost use Rattle.std.specs.Option.{option_copied};
 ghost use Rattle.std.specs.List.{list_any};
 ghost use Rattle.conf_fault.specs.Explanation.{Adds, IsWanted, fixed_words as words_of_kind, name_words as words_of_name, same_words as words_without_limit};
-ghost use Rattle.conf_fault.specs.Found.{end_of};
+ghost use Rattle.conf_fault.specs.Found.{data_of, end_of};
 ghost use Rattle.conf_fault.specs.Wanted.{IsChoice, IsEnd, IsInRange, IsKnownName, IsOneOf, IsTold, IsToldAndHinted, IsToldOfKind, alias_map as map_of_aliases, alias_thing as alias_thing_of, can_be_whole, end_name as name_of_end, is_control, named_text, names_of, range_text};
 
 use crate::expected::{classes_at, push_expected, push_nearest, push_words};
@@ -230,7 +230,7 @@ pub(crate) fn is_whole(content: Option<Content>) -> bool
 /// Adds what was expected where a value is out of range.
 #[tactic(auto, unfolding(crate::specs::Wanted::IsInRange))]
 fn push_in_range(said: &mut String, found: &Found<'_>) -> Result<(), AllocError>
-    ensures { OnOk result (Adds (IsInRange found.now.source.text.now found.now.content found.now.position) (string_bytes said.old) (string_bytes said.new)) }
+    ensures { OnOk result (Adds (IsInRange found.now.source.text.now (data_of found.now.value) found.now.content found.now.position) (string_bytes said.old) (string_bytes said.new)) }
 {
     match found.content {
         Some(Content::Word(choice)) => push_choice(said, found, words_in(choice)),
@@ -241,10 +241,10 @@ fn push_in_range(said: &mut String, found: &Found<'_>) -> Result<(), AllocError>
 
 /// Adds the words allowed, and the one most like what stands there.
 fn push_choice(said: &mut String, found: &Found<'_>, words: &[&str]) -> Result<(), AllocError>
-    ensures { OnOk result (Adds (IsChoice found.now.source.text.now (map (λ w. w.now) words.now)) (string_bytes said.old) (string_bytes said.new)) }
+    ensures { OnOk result (Adds (IsChoice found.now.source.text.now (data_of found.now.value) (map (λ w. w.now) words.now)) (string_bytes said.old) (string_bytes said.new)) }
 {
     push_words(said, words)?;
-    let Some(word) = found.source.text_of(found.layer().at)? else {
+    let Some(word) = found.text()? else {
         return Ok(());
     };
     push_nearest(said, word.as_str(), words)?;
@@ -268,7 +268,7 @@ fn push_properties(said: &mut String, found: &Found<'_>, name: &str) -> Result<(
 
 /// Adds the aliases that can stand where none has the name that does; in the value of the alias `own` it is none of them.
 fn push_known_alias(said: &mut String, found: &Found<'_>, own: &str) -> Result<(), AllocError>
-    ensures { OnOk result (Adds (IsKnownName found.now.source.text.now (alias_thing_of own.now found.now.content) (map_of_aliases found.now.content) own.now) (string_bytes said.old) (string_bytes said.new)) }
+    ensures { OnOk result (Adds (IsKnownName found.now.source.text.now (data_of found.now.value) (alias_thing_of own.now found.now.content) (map_of_aliases found.now.content) own.now) (string_bytes said.old) (string_bytes said.new)) }
 {
     let thing = alias_thing(own, found.content);
     push_known(said, found, thing, alias_map(found.content), own)

@@ -41,7 +41,8 @@ fn push_said(source: Source<'_>, said: &mut String, fault: &ConfFault) -> Result
 fn push_placed(source: Source<'_>, said: &mut String, fault: &ConfFault) -> Result<(), AllocError>
     ensures { OnOk result (Adds (IsPlaced source.entry.text.now fault.now) (string_bytes said.old) (string_bytes said.new)) }
 {
-    let found = source.find(fault.path.as_slice())?;
+    let tree = source.tree()?;
+    let found = source.find(tree.as_ref(), fault.path.as_slice())?;
     let layer = found.used_name(fault.kind).unwrap_or(found.layer());
     let at = place_at_fault(&found, layer, fault);
     push_place(source.alloc, said, line_column(source.text, at))?;

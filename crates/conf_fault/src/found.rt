@@ -1,18 +1,27 @@
 //! The walk along a fault's path over the text.
 
-ghost use Rattle.std.specs.Prelude.{◌≡◌, IfOk, IsTrue, OnOk, is_some};
-ghost use Rattle.conf_fault.specs.Found.{IsHolder, IsNext, Leads, content_behind as content_one_further, end_of, is_position, laid_content as content_laid, outermost, position_of as place_of_content};
+ghost use Rattle.std.specs.Prelude.{◌≡◌, IfOk, OnOk, is_some, option_and_then, option_map, string_bytes};
+ghost use Rattle.serde_json.specs.Find.{as_str};
+ghost use Rattle.serde_json.specs.View.{view};
+ghost use Rattle.conf_table.specs.Classes.{class_named as place_of_word};
+ghost use Rattle.conf_fault.specs.Found.{IsHolder, IsInherited, IsNext, Leads, content_behind as content_one_further, data_of, end_of, holder_there as holder_told, laid_content as content_laid, outermost, position_of as place_of_content, value_behind as value_one_further};
+ghost use Rattle.conf_fault.specs.Wanted.{IsTextThere};
 
 use crate::layers::{Layer, Layering, can_be_field_type, holds_field_type};
 use crate::source::Source;
 use conf_table::{Content, Place, class_place, content, entries};
 use conf_tree::{FaultKind, Step};
+use serde_json::Value;
 use std::alloc::AllocError;
 
 /// How far a path leads in the text.
 #[derive(Drop)]
 pub(crate) struct Found<'t> {
     pub source: Source<'t>,
+    /// The tree of the text, where it is JSON.
+    pub tree: Option<&'t Value>,
+    /// The value that the tree has there, where it is not inherited.
+    pub value: Option<&'t Value>,
     /// The value there, before what it is laid over.
     pub layers: Vec<Layer>,
     /// The name of an alias that stands there itself, where the value is that of the alias.
@@ -38,6 +47,19 @@ impl<'t> Found<'t> {
         match kind {
             FaultKind::NoSuchAlias => None,
             _ => self.name,
+        }
+    }
+
+    /// The text that stands there.
+    pub(crate) fn text(&self) -> Result<Option<String>, AllocError>
+        ensures { IfOk result (λ text. IsTextThere self.now.source.text.now (data_of self.now.value) (option_map string_bytes text)) }
+    {
+        let Some(value) = self.value else {
+            return self.source.text_of(self.layer().at);
+        };
+        match value.as_str() {
+            Some(text) => Ok(Some(String::from_str(self.source.alloc, text)?)),
+            None => Ok(None),
         }
     }
 
@@ -84,15 +106,21 @@ impl<'t> Found<'t> {
 }
 
 impl<'t> Source<'t> {
-    /// What stands where the path leads, or the last value on the way that is there.
-    pub(crate) fn find(&self, path: &[Step]) -> Result<Found<'t>, AllocError>
-        ensures ends { IfOk result (λ found. Leads self.now.text.now outermost path.now (end_of found)) }
+    /// What stands where the path leads in the text with this tree, or the last value on the way that is there.
+    pub(crate) fn find(
+        &self,
+        tree: Option<&'t Value>,
+        path: &[Step],
+    ) -> Result<Found<'t>, AllocError>
+        ensures ends { IfOk result (λ found. Leads self.now.text.now (outermost (data_of tree.entry)) path.now (end_of found)) }
         ensures source { IfOk result (λ found. found.source ≡ self.now) }
     {
         let mut layers = Vec::new(self.alloc);
         layers.push(self.root())?;
         let mut found = Found {
             source: *self,
+            tree,
+            value: tree,
             layers,
             name: None,
             position: Place::Root,
@@ -118,6 +146,7 @@ impl<'t> Source<'t> {
         ensures next { OnOk result (IsNext self.now.text.now step.now (is_some next.entry) (end_of found.old) (end_of found.new)) }
         ensures source { OnOk result (found.new.source ≡ found.old.source) }
     {
+        let value = value_behind(found.value, step);
         let position = position_of(found.content);
         let holder = self.holder_at(found, position)?;
         let content = content_behind(holder, step, next.is_some());
@@ -125,25 +154,27 @@ impl<'t> Source<'t> {
             let inner = self.inside(found.layers.as_slice(), holder, step, next)?;
             layering.go_in(found, inner, position_of(content))?;
         }
+        found.value = value;
         found.position = position;
         found.holder = holder;
         found.content = content;
         Ok(())
     }
 
-    /// The place that holds what is inside of a value at a position: the position itself where no value is there.
+    /// The place that holds what is inside of the value found, which stands at this position.
     fn holder_at(&self, found: &Found<'_>, position: Place) -> Result<Place, AllocError>
-        ensures { IfOk result (IsHolder self.now.text.now position) }
+        ensures { IfOk result (IsHolder self.now.text.now (data_of found.now.value) position) }
     {
-        if !found.is_there {
-            return Ok(position);
+        match holder_there(found.value, position) {
+            Some(holder) => Ok(holder),
+            None if found.is_there => self.class_of(found.layers.as_slice(), position),
+            None => Ok(position),
         }
-        self.class_of(found.layers.as_slice(), position)
     }
 
-    /// The place that a value at a position is: a field type by its class, where the class is known.
+    /// The place that a value at a position is: a field type by its class or the one that it inherits, where that is known.
     fn class_of(&self, layers: &[Layer], position: Place) -> Result<Place, AllocError>
-        ensures { IfOk result (IsHolder self.now.text.now position) }
+        ensures { IfOk result (IsInherited self.now.text.now position) }
     {
         if !can_be_field_type(position) {
             return Ok(position);
@@ -158,8 +189,7 @@ impl<'t> Source<'t> {
 
     /// The place of the class whose word stands in the text, or the position where there is no such class.
     fn class_at(&self, at: usize, position: Place) -> Result<Place, AllocError>
-        requires { IsTrue (is_position position) }
-        ensures { IfOk result (IsHolder self.now.text.now position) }
+        ensures { IfOk result (IsInherited self.now.text.now position) }
     {
         let Some(word) = self.text_of(at)? else {
             return Ok(position);
@@ -188,6 +218,37 @@ impl<'t> Layering<'t> {
         }
         Ok(())
     }
+}
+
+/// The value one step into another.
+#[tactic(auto, unfolding(crate::specs::Found::value_behind))]
+fn value_behind<'v>(value: Option<&'v Value>, step: &Step) -> Option<&'v Value>
+    ensures { data_of result ≡ option_and_then (value_one_further step.now) (data_of value.entry) }
+{
+    match step {
+        Step::Key(name) => value?.get(name.as_str()),
+        Step::Index(index) => value?.get(*index),
+    }
+}
+
+/// What holds what is inside of a value at a position, where the value itself tells: the position of what is no field type, or the place of the class
+/// that a field type has itself.
+#[tactic(auto, unfolding(crate::specs::Found::holder_there))]
+fn holder_there(value: Option<&Value>, position: Place) -> Option<Place>
+    ensures { result ≡ holder_told (data_of value.entry) position }
+{
+    if !can_be_field_type(position) {
+        return Some(position);
+    }
+    let class = value?.get("class")?;
+    Some(place_of_class(class).unwrap_or(position))
+}
+
+/// The place of the class whose word a value is.
+fn place_of_class(class: &Value) -> Option<Place>
+    ensures { result ≡ place_of_word (as_str (view class.now)) }
+{
+    class_place(class.as_str()?)
 }
 
 /// Where a value of this content stands. Of what the table says nothing of, nothing inside is told.

@@ -26,7 +26,7 @@ pub(crate) fn push_hint(
 {
     match fault.kind {
         FaultKind::Missing => push_missing_hint(said, found, fault.path.as_slice(), name),
-        FaultKind::NameClash => push_name_hint(said, found.source, fault.path.as_slice(), name),
+        FaultKind::NameClash => push_name_hint(said, found, fault.path.as_slice(), name),
         FaultKind::OutOfRange => push_range_hint(said, found, fault.path.as_slice()),
         FaultKind::NotWhole => push_whole_hint(said, found),
         FaultKind::NoSuchAlias => push_quote_hint(said, found),
@@ -120,7 +120,7 @@ fn has_fraction(number: &str) -> bool {
 fn push_quote_hint(said: &mut String, found: &Found<'_>) -> Result<(), AllocError>
     ensures { OnOk result (Adds IsQuoteHint (string_bytes said.old) (string_bytes said.new)) }
 {
-    let Some(word) = found.source.text_of(found.layer().at)? else {
+    let Some(word) = found.text()? else {
         return Ok(());
     };
     if !can_be_on(found.content) || (word.as_str() != "true" && word.as_str() != "false") {
@@ -157,7 +157,7 @@ fn held_numbers(found: &Found<'_>, path: &[Step]) -> Result<Option<(i128, i128)>
     if found.content != Some(Content::At(Place::Range)) {
         return Ok(None);
     }
-    let enumeration = found.source.find(&path[..path.len().saturating_sub(3)])?;
+    let enumeration = found.source.find(found.tree, &path[..path.len().saturating_sub(3)])?;
     let unused = match enumeration.number("size")? {
         Some(bits) if 1 <= bits && bits <= 64 => 64 - bits,
         _ => return Ok(None),
@@ -177,31 +177,31 @@ fn held_numbers(found: &Found<'_>, path: &[Step]) -> Result<Option<(i128, i128)>
 /// Adds which entry of its list has a name that is taken, or else whose it is.
 fn push_name_hint(
     said: &mut String,
-    source: Source<'_>,
+    found: &Found<'_>,
     path: &[Step],
     name: &str,
 ) -> Result<(), AllocError>
     ensures { OnOk result (Adds (IsNameHint name.now) (string_bytes said.old) (string_bytes said.new)) }
 {
-    let Some(index) = other_entry(source, path, name)? else {
-        return push_clash_hint(said, source, path, name);
+    let Some(index) = other_entry(found, path, name)? else {
+        return push_clash_hint(said, found, path, name);
     };
-    said.push_str(format!(in source.alloc; "; entry {index} has it")?.as_str())
+    said.push_str(format!(in found.source.alloc; "; entry {index} has it")?.as_str())
 }
 
 /// The entry of the members list to which a path leads that has this name, but the one at the path's own index.
-fn other_entry(source: Source<'_>, path: &[Step], name: &str) -> Result<Option<usize>, AllocError> {
+fn other_entry(found: &Found<'_>, path: &[Step], name: &str) -> Result<Option<usize>, AllocError> {
     let [.., Step::Index(own), Step::Key(_)] = path else {
         return Ok(None);
     };
-    let list = source.find(&path[..path.len().saturating_sub(2)])?;
+    let list = found.source.find(found.tree, &path[..path.len().saturating_sub(2)])?;
     list.other_entry(*own, name)
 }
 
 /// Adds whose the name is where the list of members does not show it.
 fn push_clash_hint(
     said: &mut String,
-    source: Source<'_>,
+    found: &Found<'_>,
     path: &[Step],
     name: &str,
 ) -> Result<(), AllocError>
@@ -218,8 +218,8 @@ fn push_clash_hint(
     if name.starts_with("__") && name.ends_with("_len") {
         return said.push_str("; a dynamic array `x` takes `__x_len` too");
     }
-    let length = format!(in source.alloc; "__{name}_len")?;
-    let list = source.find(&path[..path.len().saturating_sub(2)])?;
+    let length = format!(in found.source.alloc; "__{name}_len")?;
+    let list = found.source.find(found.tree, &path[..path.len().saturating_sub(2)])?;
     if !list.has_entry(length.as_str())? {
         return Ok(());
     }

@@ -3,6 +3,7 @@
 ghost use Rattle.std.specs.Prelude.{◌≡◌, IfOk, OnOk, map, option_map, string_bytes};
 ghost use Rattle.serde_json.specs.View.{members_view, view};
 ghost use Rattle.conf_fault.specs.Explanation.{Adds};
+ghost use Rattle.conf_fault.specs.Found.{data_of};
 ghost use Rattle.conf_fault.specs.Names.{known_names as names_known, map_of as map_in, other_names as names_but};
 ghost use Rattle.conf_fault.specs.Wanted.{IsKnownName, IsLargestNumber, IsRoom, end_name as name_of_end, numbered_types as types_of};
 
@@ -22,7 +23,7 @@ pub(crate) fn push_known(
     map_name: &str,
     own: &str,
 ) -> Result<(), AllocError>
-    ensures { OnOk result (Adds (IsKnownName found.now.source.text.now thing.now map_name.now own.now) (string_bytes said.old) (string_bytes said.new)) }
+    ensures { OnOk result (Adds (IsKnownName found.now.source.text.now (data_of found.now.value) thing.now map_name.now own.now) (string_bytes said.old) (string_bytes said.new)) }
 {
     let source = found.source;
     let tree = source.tree()?;
@@ -30,7 +31,7 @@ pub(crate) fn push_known(
     said.push_str(format!(in source.alloc; "the name of {thing} (there are ")?.as_str())?;
     push_names(said, source.alloc, words.as_slice())?;
     said.push(')')?;
-    let Some(word) = source.text_of(found.layer().at)? else {
+    let Some(word) = found.text()? else {
         return Ok(());
     };
     push_nearest(said, word.as_str(), words.as_slice())

@@ -2,7 +2,7 @@ use Rattle.std.proofs.Common.{◌≡◌, ℕ, List, refl, string_bytes, subst}
 use Rattle.std.specs.Prelude.{OnOk, Some}
 use Rattle.conf_fault.specs.Explanation.{Adds}
 use Rattle.conf_fault.specs.Wanted.{IsKnownName, IsOneOf, IsToldOfKind, alias_map, alias_thing, limit_words, names_of}
-use Rattle.conf_fault.specs.Found.{end_of}
+use Rattle.conf_fault.specs.Found.{data_of, end_of}
 use Rattle.conf_fault.proofs.WantedLemmas.{adds_same, told_of_others}
 use Rattle.conf_fault.proofs.by_kind.push_told_of_kind.Goals as goal
 
@@ -21,7 +21,7 @@ pub returns-in-NoSuchAlias : goal.returns-in-NoSuchAlias
 unfolding IsToldOfKind
 returns-in-NoSuchAlias c =
     let now = string_bytes c.push_known_alias.new.said in
-    rw c.in-NoSuchAlias.is (subst (λ (own : List ℕ). OnOk c.push_known_alias.result (Adds (IsKnownName c.args.found.now.source.text.now (alias_thing own c.args.found.now.content) (alias_map c.args.found.now.content) own) (string_bytes c.args.said.now) now))
+    rw c.in-NoSuchAlias.is (subst (λ (own : List ℕ). OnOk c.push_known_alias.result (Adds (IsKnownName c.args.found.now.source.text.now (data_of c.args.found.now.value) (alias_thing own c.args.found.now.content) (alias_map c.args.found.now.content) own) (string_bytes c.args.said.now) now))
     c.own_alias.ensures c.push_known_alias.ensures)
 
 pub returns-in-NoClock : goal.returns-in-NoClock

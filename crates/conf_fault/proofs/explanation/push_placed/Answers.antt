@@ -1,9 +1,24 @@
-use Rattle.std.proofs.Common.{◌++◌, string_bytes, refl, ◌∙◌, ap, sym, subst}
-use Rattle.std.specs.Prelude.{codes}
+use Rattle.std.proofs.Common.{◌++◌, List, string_bytes, refl, ◌∙◌, ap, sym, subst}
+use Rattle.std.specs.Prelude.{codes, option_map}
+use Rattle.serde_json.specs.View.{view}
+use Rattle.conf_tree.specs.declared.step.Step.{Step}
 use Rattle.conf_fault.specs.Explanation.{IsPlaced, IsWanted, path_words, place_words}
+use Rattle.conf_fault.specs.Found.{Leads, data_of, end_of, outermost}
+use Rattle.conf_fault.specs.Names.{IsRead}
+use Rattle.conf_fault.specs.Wanted.{IsEnd}
 use Rattle.conf_fault.specs.declared.source.Source.{Source}
 use Rattle.conf_fault.proofs.Adding.{added, behind}
+use Rattle.conf_fault.proofs.EndLemmas.{copied_data}
 use Rattle.conf_fault.proofs.explanation.push_placed.Goals as goal
+
+pub wanted_words-requires : goal.wanted_words-requires
+wanted_words-requires c =
+    let text = c.args.source.text.now in
+    let tree = c.as_ref.result in
+    let end = end_of c.in_ok-found.found in
+    let read : IsRead text (data_of tree) = subst (IsRead text) (ap (option_map view) (sym c.as_ref.ensures.value) ∙ copied_data tree) c.in_ok-tree.ensures in
+    let leads = subst (λ (path : List Step). Leads text (outermost (data_of tree)) path end) c.as_slice.ensures c.in_ok-found.ensures.ends in
+    subst (λ (s : Source). IsEnd s.text.now c.args.fault.now end) (sym c.in_ok-found.ensures.source) (data_of tree, read, leads)
 
 pub returns : goal.returns
 returns c =
