@@ -157,7 +157,9 @@ fn held_numbers(found: &Found<'_>, path: &[Step]) -> Result<Option<(i128, i128)>
     if found.content != Some(Content::At(Place::Range)) {
         return Ok(None);
     }
-    let enumeration = found.source.find(found.tree, &path[..path.len().saturating_sub(3)])?;
+    let enumeration = found
+        .source
+        .find(found.tree, &path[..path.len().saturating_sub(3)])?;
     let unused = match enumeration.number("size")? {
         Some(bits) if 1 <= bits && bits <= 64 => 64 - bits,
         _ => return Ok(None),
@@ -194,7 +196,9 @@ fn other_entry(found: &Found<'_>, path: &[Step], name: &str) -> Result<Option<us
     let [.., Step::Index(own), Step::Key(_)] = path else {
         return Ok(None);
     };
-    let list = found.source.find(found.tree, &path[..path.len().saturating_sub(2)])?;
+    let list = found
+        .source
+        .find(found.tree, &path[..path.len().saturating_sub(2)])?;
     list.other_entry(*own, name)
 }
 
@@ -219,7 +223,9 @@ fn push_clash_hint(
         return said.push_str("; a dynamic array `x` takes `__x_len` too");
     }
     let length = format!(in found.source.alloc; "__{name}_len")?;
-    let list = found.source.find(found.tree, &path[..path.len().saturating_sub(2)])?;
+    let list = found
+        .source
+        .find(found.tree, &path[..path.len().saturating_sub(2)])?;
     if !list.has_entry(length.as_str())? {
         return Ok(());
     }
