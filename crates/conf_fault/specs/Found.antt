@@ -1,7 +1,7 @@
 -- Where the way along a fault's path ends, in the tree of the text and in the table. In both it starts outermost. In the tree a name leads to a member and
 -- an index to an item. In the table a name leads on by its row, or as to each entry of a map, and an index as to each item of a list; at a field type its
 -- class tells the rows: that which it has itself in the tree, or else, where it inherits, one whose word stands in the text.
-use Rattle.std.specs.Prelude.{◌≡◌, ◌⊎◌, ℕ, List, [], ◌∷◌, Option, None, Some, Bool, true, false, not, ◌&&◌, ◌||◌, IsTrue, option_map, option_and_then, unwrap_or, MatchOption, take, drop, if◌then◌else◌, codes, string_bytes}
+use Rattle.std.specs.Prelude.{◌≡◌, ◌⊎◌, ℕ, List, [], ◌∷◌, Option, None, Some, Bool, true, false, not, ◌&&◌, ◌||◌, option_map, option_and_then, unwrap_or, MatchOption, take, drop, if◌then◌else◌, codes, string_bytes}
 use Rattle.std.specs.Borrow.{Bor}
 use Rattle.std.specs.Str.{bytes_eq}
 use Rattle.serde_json.specs.Data.{Data, string}
