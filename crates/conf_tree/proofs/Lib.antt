@@ -1,3 +1,5 @@
 mod Flaws
+pub mod OneLineLemmas
 mod Rows
 mod WorkedLimits
+mod WorkedWords

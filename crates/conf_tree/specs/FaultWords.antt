@@ -3,6 +3,7 @@ use Rattle.std.specs.Prelude.{ℕ, List, [], ◌∷◌, ◌++◌, codes, decimal
 use Rattle.std.specs.List.{flat_map}
 use Rattle.conf_tree.specs.declared.fault_kind.FaultKind.{FaultKind}
 use Rattle.conf_tree.specs.declared.fault_kind.FaultKind.TheVariants.{NotJson, TooDeep, WrongKind, NotWhole, Missing, Unknown, NoSuchAlias, InheritCycle, OutOfRange, BadName, ReservedName, NameClash, FieldTooSmall, ZeroSizeRecord, NoClock, NoUuid, Limit, TwoOrders, TimestampSize, OutOfMemory}
+use Rattle.ctf_types.specs.declared.limits.TheConstants.{MAX_NAME_BYTES}
 use Rattle.conf_tree.specs.declared.limits.TheConstants.{MAX_LEVELS}
 use Rattle.conf_tree.specs.Flaw.{Flaw, Place, text_of_place}
 
@@ -16,7 +17,7 @@ kind_words Unknown = codes "unknown property: expected only the ones that this o
 kind_words NoSuchAlias = codes "no such alias: expected the name of an alias of this configuration"
 kind_words InheritCycle = codes "alias inherits from itself: expected a chain of aliases that ends"
 kind_words OutOfRange = codes "value out of range: expected one that this place allows"
-kind_words BadName = codes "bad name: expected a letter or `_`, then letters, digits or `_`, 255 bytes at most"
+kind_words BadName = codes "bad name: expected a letter or `_`, then letters, digits or `_`, " ++ decimal MAX_NAME_BYTES ++ codes " bytes at most"
 kind_words ReservedName = codes "reserved word: expected a name that the metadata language does not use itself"
 kind_words NameClash = codes "name is taken: expected one that nothing else in this structure has"
 kind_words FieldTooSmall = codes "field is too small: expected room for the largest number that it must hold"

@@ -6,6 +6,7 @@ use Rattle.conf_tree.specs.declared.fault_kind.FaultKind.TheVariants.{OutOfMemor
 use Rattle.conf_tree.specs.declared.step.Step.{Step}
 use Rattle.conf_tree.specs.declared.step.Step.TheVariants.{Key, Index}
 use Rattle.conf_tree.specs.declared.fault.ConfFault.{ConfFault}
+use Rattle.conf_tree.specs.OneLine.{shown}
 
 -- one step: to the property of a name, or to the item at an index
 pub data Place : Type 0 where
@@ -20,9 +21,9 @@ abbrev pub place_of : Step → Place
 place_of (Key name) = key (string_bytes name)
 place_of (Index i) = index i
 
--- how a step is printed: a name as it is, an index in decimal digits
+-- how a step is printed: a name on one line, an index in decimal digits
 abbrev pub text_of_place : Place → List ℕ
-text_of_place (key name) = name
+text_of_place (key name) = shown name
 text_of_place (index i) = decimal i
 
 -- the flaw that a fault tells of

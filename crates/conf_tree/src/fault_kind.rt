@@ -3,6 +3,7 @@ ghost use Rattle.std.specs.Prelude.{Some};
 ghost use Rattle.conf_tree.specs.FaultWords.{kind_words};
 
 use crate::MAX_LEVELS;
+use ctf_types::MAX_NAME_BYTES;
 use std::error::Error;
 use std::fmt;
 
@@ -57,8 +58,12 @@ impl fmt::Display for FaultKind {
             FaultKind::InheritCycle =>
                 "alias inherits from itself: expected a chain of aliases that ends",
             FaultKind::OutOfRange => "value out of range: expected one that this place allows",
-            FaultKind::BadName =>
-                "bad name: expected a letter or `_`, then letters, digits or `_`, 255 bytes at most",
+            FaultKind::BadName => {
+                return write!(
+                    f,
+                    "bad name: expected a letter or `_`, then letters, digits or `_`, {MAX_NAME_BYTES} bytes at most"
+                );
+            }
             FaultKind::ReservedName =>
                 "reserved word: expected a name that the metadata language does not use itself",
             FaultKind::NameClash =>

@@ -1,5 +1,6 @@
 //! One step of the path to a value of a configuration.
 
+use crate::OneLine;
 use std::fmt;
 
 /// One step from a value to a value in it.
@@ -11,7 +12,7 @@ pub enum Step {
     Index(usize),
 }
 
-/// A name as it stands in the configuration, an index in decimal digits.
+/// A name on one line, an index in decimal digits.
 impl fmt::Display for Step {
     ghost use Rattle.std.specs.Prelude.{Some};
     ghost use Rattle.conf_tree.specs.Flaw.{text_of_place, place_of};
@@ -20,7 +21,7 @@ impl fmt::Display for Step {
 
     fn fmt<W: fmt::Write>(&self, f: &mut fmt::Formatter<W>) -> fmt::Result {
         match self {
-            Step::Key(name) => f.write_str(name.as_str()),
+            Step::Key(name) => write!(f, "{}", OneLine(name.as_str())),
             Step::Index(index) => write!(f, "{index}"),
         }
     }
