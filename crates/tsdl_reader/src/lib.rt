@@ -4,9 +4,11 @@
 mod cut;
 mod laws;
 mod meaning;
+mod place;
 mod read;
 mod token_words;
 mod unexpected;
+mod unexpected_word;
 mod words;
 
 pub use laws::denoted_is_unique;

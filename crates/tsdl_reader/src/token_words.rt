@@ -2,7 +2,7 @@
 
 use std::alloc::{AllocError, Global};
 use tsdl_flaw::CONVERTED;
-use tsdl_grammar::{escaped_byte, first_token};
+use tsdl_grammar::{Mark, TokenKind, escaped_byte, first_token};
 
 /// What is wrong with the bytes of a text from a place on at which no token begins, None where the first one is a wrong
 /// character.
@@ -24,9 +24,10 @@ pub(crate) fn token_words(
 }
 
 /// What is wrong with the mark of a variant. A text with names of types before it is converted, as that of a tracer which
-/// writes variants around the numbers and the times of its events.
+/// writes variants around the numbers and the times of its events; a variant in an event itself stays.
 fn angle_words(alloc: Global, text: &[u8], place: usize) -> Result<String, AllocError> {
-    let remedy = if names_types(text.get(..place).unwrap_or(text)) {
+    let before = text.get(..place).unwrap_or(text);
+    let remedy = if names_types(before) && !ends_in_event(before) {
         CONVERTED
     } else {
         ""
@@ -44,6 +45,23 @@ fn names_types(text: &[u8]) -> bool {
         rest = behind;
     }
     false
+}
+
+/// Whether the last word of a text outside of braces is the one of an event block.
+fn ends_in_event(text: &[u8]) -> bool {
+    let mut in_event = false;
+    let mut open = 0usize;
+    let mut rest = text;
+    while let Some((front, behind)) = first_token(rest) {
+        match front.kind {
+            TokenKind::Mark(Mark::OpenBrace) => open = open.saturating_add(1),
+            TokenKind::Mark(Mark::CloseBrace) => open = open.saturating_sub(1),
+            TokenKind::Identifier if open == 0 => in_event = front.word() == Some("event"),
+            TokenKind::Identifier | TokenKind::Number | TokenKind::Text | TokenKind::Mark(_) => {}
+        }
+        rest = behind;
+    }
+    in_event
 }
 
 /// What is wrong with a string, of which the first quote is passed.

@@ -1,16 +1,19 @@
 //! What is wrong where something else is expected than what stands there.
 
-ghost use Rattle.std.specs.Prelude.{◌≡◌, IfOk, Some, slice_get};
-ghost use Rattle.tsdl_grammar.specs.declared.atom.Atom.TheVariants as atoms;
+ghost use Rattle.std.specs.Prelude.{IfOk, slice_get};
 ghost use Rattle.tsdl_grammar.specs.Fronts.{atoms_in};
 ghost use Rattle.tsdl_meaning.specs.PacketSizes.{IfSizesMissed};
 ghost use Rattle.tsdl_reader.specs.Reading.{IsFaultOf, IsFlawOf};
 
-use ctf_types::is_unused_keyword;
+use crate::place::{atom_at, braces_open, has_mark, has_word, is_word};
+use crate::unexpected_word::flaw_of_word;
 use std::alloc::{AllocError, Global};
-use tsdl_flaw::{Fault, Flaw, Remedy, Stop};
-use tsdl_grammar::{Atom, Mark, first_token};
+use tsdl_flaw::{Fault, Flaw, Stop};
+use tsdl_grammar::{Atom, Mark};
 use tsdl_parser::Expected;
+
+/// The words that blocks begin with.
+const BLOCK_WORDS: &[&str] = &["trace", "env", "clock", "stream", "event"];
 
 /// The fault of a text at an atom where something else is expected.
 pub(crate) fn unexpected(alloc: Global, text: &[u8], at: usize, expected: Expected) -> Stop
@@ -28,126 +31,79 @@ pub(crate) fn unexpected(alloc: Global, text: &[u8], at: usize, expected: Expect
 fn flaw_at(alloc: Global, text: &[u8], at: usize, expected: Expected) -> Result<Flaw, AllocError>
     ensures { IfOk result (IsFlawOf (slice_get (atoms_in text.now) at)) }
 {
+    if let Some(words) = words_around(alloc, text, at, expected)? {
+        return Ok(Flaw::Syntax(words));
+    }
     match atom_at(alloc, text, at)? {
-        Some(Atom::Word(word)) => flaw_of_word(alloc, word.as_str(), expected),
+        Some(Atom::Word(word)) => flaw_of_word(alloc, text, at, word.as_str(), expected),
         Some(Atom::Mark(Mark::Comma | Mark::CloseBrace))
             if matches!(expected, Expected::LabelMark) => { Ok(Flaw::LabelWithoutValue) }
-        Some(Atom::Mark(Mark::OpenBrace)) => {
-            let begun = block_begins(alloc, text, at)?;
-            Ok(Flaw::Syntax(words_at_brace(begun, expected)))
-        }
         _ => Ok(Flaw::Syntax(expected.words())),
     }
 }
 
-/// The atom of this index, None behind the last one.
-fn atom_at(alloc: Global, text: &[u8], at: usize) -> Result<Option<Atom>, AllocError>
-    ensures { IfOk result (λ atom. atom ≡ slice_get (atoms_in text.now) at) }
-{
-    let mut before = at;
-    let mut rest = text;
-    while let Some((front, behind)) = first_token(rest) {
-        if before == 0 {
-            return Ok(Some(front.atom(alloc)?));
-        }
-        before -= 1;
-        rest = behind;
-    }
-    Ok(None)
-}
-
-/// Whether the word of a block stands before the atom of this index.
-fn block_begins(alloc: Global, text: &[u8], at: usize) -> Result<bool, AllocError> {
-    let Some(before) = at.checked_sub(1) else {
-        return Ok(false);
-    };
-    match atom_at(alloc, text, before)? {
-        Some(Atom::Word(word)) => Ok(matches!(
-            word.as_str(),
-            "trace" | "env" | "clock" | "stream" | "event"
-        )),
-        Some(Atom::Number(_) | Atom::Text(_) | Atom::Mark(_) | Atom::TooLarge) | None => {
-            Ok(false)
-        }
-    }
-}
-
-/// What is expected where an opening brace stands: where a block begins among the items of another one, that one may not be
-/// closed.
-fn words_at_brace(block_begins: bool, expected: Expected) -> &'static str {
-    match expected {
-        Expected::ItemMark if block_begins => "`=` or `:=`, or a `}` that closes the block before",
-        Expected::Mark(Mark::Equals) if block_begins =>
+/// What is expected at a place where what stands around it tells more than what was expected: where a block begins inside
+/// of another one or of a structure, that one may not be closed, and before some semicolons more can stand.
+fn words_around(
+    alloc: Global,
+    text: &[u8],
+    at: usize,
+    expected: Expected,
+) -> Result<Option<&'static str>, AllocError> {
+    let before = at.saturating_sub(1);
+    let (words, holds) = match expected {
+        Expected::ItemMark => (
+            "`=` or `:=`, or a `}` that closes the block before",
+            block_begins(alloc, text, before)?,
+        ),
+        Expected::Mark(Mark::Equals) => (
             "`=`, or a `}` that closes the block before",
-        _ => expected.words(),
-    }
+            block_begins(alloc, text, before)?,
+        ),
+        Expected::Member => (
+            "`integer`, `enum`, `string`, or a `}` that closes the structure before",
+            block_begins(alloc, text, at)?,
+        ),
+        Expected::Mark(Mark::Semicolon) => return words_before_semicolon(alloc, text, before),
+        _ => return Ok(None),
+    };
+    Ok(if holds { Some(words) } else { None })
 }
 
-fn flaw_of_word(alloc: Global, word: &str, expected: Expected) -> Result<Flaw, AllocError>
-    ensures { IfOk result (IsFlawOf (Some (atoms.Word word.now))) }
-{
-    if let Some(remedy) = remedy_of(word, expected) {
-        Ok(Flaw::Unsupported(String::from_str(alloc, word)?, remedy))
-    } else if is_place_of_a_type(expected)
-        && !matches!(word, "enum" | "integer" | "string" | "struct")
-    {
-        Ok(Flaw::NamedType)
+/// Whether a block begins at the atom of this index: its word, and a brace.
+fn block_begins(alloc: Global, text: &[u8], at: usize) -> Result<bool, AllocError> {
+    Ok(
+        has_word(alloc, text, at, BLOCK_WORDS)?
+            && has_mark(alloc, text, at.saturating_add(1), Mark::OpenBrace)?,
+    )
+}
+
+/// What is expected behind the atom of this index where a semicolon is, if more can stand there: the length of an array
+/// behind a member, and an alignment behind a structure.
+fn words_before_semicolon(
+    alloc: Global,
+    text: &[u8],
+    at: usize,
+) -> Result<Option<&'static str>, AllocError> {
+    if ends_a_member(alloc, text, at)? {
+        Ok(Some("`[` or `;`"))
+    } else if has_mark(alloc, text, at, Mark::CloseBrace)? && braces_open(text, at) > 1 {
+        Ok(Some("`align` or `;`"))
     } else {
-        Ok(Flaw::Syntax(expected.words()))
+        Ok(None)
     }
 }
 
-/// What can be done about a word that is not read where it stands, None where it is no name of such a construct. Types
-/// that have names are written where they are used; aliases of types, and the words of C that stand for some, are written
-/// in other words; types of reals and variants stay. A keyword where a name or a value stands is none of these.
-fn remedy_of(word: &str, expected: Expected) -> Option<Remedy> {
-    let instead = Remedy::Instead(expected.words());
-    match expected {
-        Expected::Block => Some(remedy_among(CONVERTED_BLOCKS, word, instead)),
-        Expected::Member if word == "struct" => Some(Remedy::Nothing),
-        _ if !is_unused_keyword(word) => None,
-        Expected::Item => Some(remedy_among(CONVERTED_BLOCKS, word, instead)),
-        _ if is_place_of_a_type(expected) => {
-            Some(remedy_among(CONVERTED_TYPES, word, Remedy::Nothing))
-        }
-        _ => Some(instead),
+/// Whether a member ends with the atom of this index, before its semicolon: with a bracket, or with its name, which
+/// stands behind the braces of its type or behind `string`.
+fn ends_a_member(alloc: Global, text: &[u8], at: usize) -> Result<bool, AllocError> {
+    if has_mark(alloc, text, at, Mark::CloseBracket)? {
+        return Ok(true);
     }
-}
-
-/// Constructs that a conversion writes in other words, where a block or a part of it begins.
-const CONVERTED_BLOCKS: &[&str] = &["enum", "struct", "typealias", "typedef"];
-
-/// The same where a type stands.
-const CONVERTED_TYPES: &[&str] = &[
-    "_Bool",
-    "char",
-    "const",
-    "int",
-    "long",
-    "short",
-    "typealias",
-    "typedef",
-    "unsigned",
-    "void",
-];
-
-/// What can be done about a word, where a conversion writes these in other words.
-fn remedy_among(converted: &[&str], word: &str, otherwise: Remedy) -> Remedy {
-    if converted.contains(&word) {
-        Remedy::Conversion
-    } else {
-        otherwise
-    }
-}
-
-/// Whether a type can be named at a place of the grammar.
-fn is_place_of_a_type(expected: Expected) -> bool {
-    matches!(
-        expected,
-        Expected::Member
-            | Expected::EnumColon
-            | Expected::EnumInteger
-            | Expected::Structure
-            | Expected::StructureBrace
+    let before = at.saturating_sub(1);
+    Ok(
+        is_word(alloc, text, at)?
+            && (has_mark(alloc, text, before, Mark::CloseBrace)?
+                || has_word(alloc, text, before, &["string"])?),
     )
 }

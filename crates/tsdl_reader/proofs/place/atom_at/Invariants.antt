@@ -1,6 +1,6 @@
 use Rattle.std.proofs.Common.{◌≡◌, length, slice_get}
 use Rattle.tsdl_grammar.specs.Fronts.{atoms_in}
-use Rattle.tsdl_reader.proofs.unexpected.atom_at.Given as goal
+use Rattle.tsdl_reader.proofs.place.atom_at.Given as goal
 
 -- the atom that is looked for stands among those that are left
 abbrev pub invariant-loop-front : goal.invariant-loop-front
