@@ -6,11 +6,10 @@ ghost use Rattle.tsdl_meaning.specs.Words.{meant_by, int_type, default_align, ba
 
 use crate::known::Known;
 use crate::lookup::{attr, has_only};
-use crate::scope_rule::has_word;
 use crate::value::{
     Meant, flag_or_false, natural, natural_or, natural_value, one_word, word_value,
 };
-use ctf_types::{Base, ByteOrder, IntType, LARGEST_ALIGN, Text};
+use ctf_types::{Base, ByteOrder, IntType, LARGEST_ALIGN, Text, is_among};
 use std::alloc::Global;
 use tsdl_grammar::{Attribute, Value};
 
@@ -75,7 +74,7 @@ fn default_align(size: u64) -> u64
 pub(crate) fn order_value(order: ByteOrder, value: &Value) -> Option<ByteOrder>
     ensures { result ≡ order_value order value.now }
 {
-    has_word(word_value(value)?.as_str(), order_words(order)).then_some(order)
+    is_among(word_value(value)?.as_str(), order_words(order)).then_some(order)
 }
 
 /// The words for a trace's byte order.

@@ -59,7 +59,7 @@ pub(crate) fn has_words(name: &Name, words: &[&str]) -> bool
 }
 
 /// Whether the words of a name are among these.
-pub(crate) fn is_among(names: &[&[&str]], name: &Name) -> bool
+pub(crate) fn is_name_among(names: &[&[&str]], name: &Name) -> bool
     ensures { result ≡ is_among (names_of names.now) (words_of name.now) }
 {
     names.iter().any(|words| has_words(name, words))
@@ -92,7 +92,7 @@ pub(crate) fn has_only(allowed: &[&[&str]], attributes: &[Attribute]) -> bool
 {
     let mut rest = attributes;
     while let [attribute, others @ ..] = rest {
-        if !is_among(allowed, &attribute.name) || has_attr(&attribute.name, others) {
+        if !is_name_among(allowed, &attribute.name) || has_attr(&attribute.name, others) {
             return false;
         }
         rest = others;
@@ -192,7 +192,7 @@ pub(crate) fn has_parts(
     let mut rest = items;
     while let [item, others @ ..] = rest {
         if let Item::Scope(scope) = item {
-            if !is_among(allowed, &scope.name) || has_scope_in(&scope.name, others) {
+            if !is_name_among(allowed, &scope.name) || has_scope_in(&scope.name, others) {
                 return Ok(false);
             }
         }

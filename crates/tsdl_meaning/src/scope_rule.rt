@@ -1,10 +1,10 @@
 //! Which types the members of a scope have where their names have a meaning (CTF 1.8.3, sections 5.1 and 5.2).
 
 ghost use Rattle.std.specs.Prelude.{◌≡◌, ◌<◌, length};
-ghost use Rattle.tsdl_meaning.specs.Words.{list_all, list_any, bytes_eq, is_unsigned_of, is_uuid, suits_header, suits, chain_of, texts_of, suits_rule, is_byte_chain, SuitsAt};
+ghost use Rattle.tsdl_meaning.specs.Words.{list_all, is_unsigned_of, is_uuid, suits_header, suits, chain_of, texts_of, suits_rule, is_byte_chain, SuitsAt};
 
 use crate::member::is_unsigned;
-use ctf_types::{FieldType, MemberType, Members, OWN_NAMES};
+use ctf_types::{FieldType, MemberType, Members, OWN_NAMES, is_among};
 
 /// The names that an event header gives a meaning.
 const EVENT_HEADER_NAMES: [&str; 1] = ["id"];
@@ -82,14 +82,7 @@ fn suits_header(name: &str, member: &MemberType) -> bool
 fn suits(names: &[&str], name: &str, member: &MemberType) -> bool
     ensures { result ≡ suits (texts_of names.now) (name.now, member.now) }
 {
-    !has_word(name, names) || is_unsigned(member)
-}
-
-/// Whether a word is among these.
-pub(crate) fn has_word(word: &str, words: &[&str]) -> bool
-    ensures { result ≡ list_any (bytes_eq word.now) (texts_of words.now) }
-{
-    words.iter().any(|other| word == *other)
+    !is_among(name, names) || is_unsigned(member)
 }
 
 /// Whether a member is an unsigned integer of this size.

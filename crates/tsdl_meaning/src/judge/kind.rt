@@ -12,11 +12,10 @@ use crate::judge::block::Judging;
 use crate::judge::clock_words::clock_words;
 use crate::judge::names::Names;
 use crate::judge::value::{judge_align, judge_flag, judge_natural, number, unread, unread_order};
-use crate::lookup::{attr, is_among};
+use crate::lookup::{attr, is_name_among};
 use crate::member::{ENCODINGS, STRING_ATTRIBUTES, STRING_PARTS, is_encoding};
-use crate::scope_rule::has_word;
 use crate::value::{one_word, word_value};
-use ctf_types::MAX_RANGES;
+use ctf_types::{MAX_RANGES, is_among};
 use tsdl_flaw::{Flaw, Limit, Remedy, Spelled, Stop};
 use tsdl_grammar::{Attribute, Entries, Entry, Kind, Value};
 
@@ -125,7 +124,7 @@ fn judge_attribute(
     ensures adds { IfOk result (λ _. AddsAttribute (own_asked judging.now.survey.now.known kind) names.old.names attribute.now names.new.names) }
     ensures fault { IfErr result (StopsWhere (λ front. AreNamed front marks.Equals names.old.names) at (attr_toks attribute.now)) }
 {
-    if !is_among(attributes_of(kind), &attribute.name) {
+    if !is_name_among(attributes_of(kind), &attribute.name) {
         let remedy = Remedy::Instead(parts_of(kind));
         return Err(Stop::unsupported(judging.alloc, at, &attribute.name, remedy));
     }
@@ -191,7 +190,7 @@ fn judge_order(judging: &Judging, value: &Value, at: usize) -> Result<(), Stop>
     ensures fault { IfErr result (StopsAmong at (value_toks value.now)) }
 {
     match word_value(value) {
-        Some(word) if !judging.survey.has_order && has_word(word.as_str(), &["native"]) => Ok(()),
+        Some(word) if !judging.survey.has_order && is_among(word.as_str(), &["native"]) => Ok(()),
         Some(_)
             if judging.survey.has_order
                 && order_value(judging.survey.known.order(), value).is_some() => Ok(()),

@@ -4,10 +4,9 @@
 ghost use Rattle.std.specs.Prelude.{◌≡◌, Some, IsSome, IsTrue, IfOk, IfErr};
 ghost use Rattle.tsdl_meaning.specs.Words.{is_some, value_toks, number_toks, natural, natural_value, whole_value, text_value, name_value, flag_value, uuid_value, align_of, StopsAmong, StopsWhere, IsBehindAlign};
 
-use crate::scope_rule::has_word;
 use crate::structure::alignment;
 use crate::value::{flag_value, name_value, natural, text_value, uuid_value, whole, word_value};
-use ctf_types::{LARGEST_ALIGN, Text};
+use ctf_types::{LARGEST_ALIGN, Text, is_among};
 use std::alloc::Global;
 use tsdl_flaw::{Flaw, Limit, Remedy, Stop};
 use tsdl_grammar::{Number, Value};
@@ -128,7 +127,7 @@ pub(crate) fn unread_order(alloc: Global, value: &Value, at: usize, expected: &'
     ensures { StopsAmong at (value_toks value.now) result }
 {
     let remedy = match word_value(value) {
-        Some(word) if has_word(word.as_str(), &["be", "le", "network"]) => Remedy::Conversion,
+        Some(word) if is_among(word.as_str(), &["be", "le", "network"]) => Remedy::Conversion,
         _ => Remedy::Instead(expected),
     };
     unfit(alloc, value, at, expected, remedy)

@@ -6,8 +6,8 @@ use Rattle.tsdl_meaning.proofs.JudgedParts.{ok_from, stops_same}
 use Rattle.tsdl_meaning.proofs.StopsInAttributes.{attr_parts}
 use Rattle.tsdl_meaning.proofs.judge.kind.judge_attribute.Goals as goal
 
-pub returns-then-not-is_among-clause-fault : goal.returns-then-not-is_among-clause-fault
-returns-then-not-is_among-clause-fault c = λ front behind named.
+pub returns-then-not-is_name_among-clause-fault : goal.returns-then-not-is_name_among-clause-fault
+returns-then-not-is_name_among-clause-fault c = λ front behind named.
     let a = c.args.attribute.now in
     let rest = mark marks.Equals ∷ (value_toks a.value ++ mark marks.Semicolon ∷ behind) in
     stops_same front (attr_toks a ++ behind) (name_toks a.name ++ rest) c.args.at c.unsupported.result (simp append_assoc) (c.unsupported.ensures front rest)
@@ -28,7 +28,7 @@ returns-clause-fault c =
 pub returns-clause-among : goal.returns-clause-among
 returns-clause-among c =
     let among = λ (names : List (List (List ℕ))). is_among names (words_of c.args.attribute.now.name) ≡ true in
-    ok_from c.judge_value.result (λ x. among (own_attrs c.args.kind)) (λ x. subst among c.attributes_of.ensures (sym c.is_among.ensures ∙ c.if-not-is_among.false))
+    ok_from c.judge_value.result (λ x. among (own_attrs c.args.kind)) (λ x. subst among c.attributes_of.ensures (sym c.is_name_among.ensures ∙ c.if-not-is_name_among.false))
 
 pub returns-clause-adds : goal.returns-clause-adds
 returns-clause-adds c =

@@ -1,7 +1,7 @@
 use Rattle.std.proofs.Common.{◌∙◌, sym, rules, tests}
 use Rattle.tsdl_meaning.proofs.TextWords.{YieldsList-from_slice, any_from_yields_List, same_words, texts_of, words_of}
 use Rattle.tsdl_meaning.proofs.Fronts.{any_mapped}
-use Rattle.tsdl_meaning.proofs.lookup.is_among.Goals as goal
+use Rattle.tsdl_meaning.proofs.lookup.is_name_among.Goals as goal
 
 pub returns : goal.returns
 returns c =
