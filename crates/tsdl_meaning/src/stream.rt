@@ -14,6 +14,12 @@ use tsdl_grammar::Item;
 
 pub(crate) const PACKET_CONTEXT: NamedRule = (&["packet", "context"], ScopeRule::PacketContext);
 
+/// The member of a packet context that has the size of the packet.
+pub(crate) const PACKET_SIZE: &str = "packet_size";
+
+/// The member of a packet context that has the size of the packet's content.
+pub(crate) const CONTENT_SIZE: &str = "content_size";
+
 pub(crate) const EVENT_HEADER: NamedRule = (&["event", "header"], ScopeRule::EventHeader);
 
 pub(crate) const EVENT_CONTEXT: NamedRule = (&["event", "context"], ScopeRule::AnyMembers);
@@ -33,8 +39,8 @@ pub(crate) fn stream_meaning(alloc: Global, known: &Known, items: &[Item]) -> Me
     let context = meant!(scope_meaning(alloc, known, PACKET_CONTEXT, items)?);
     let event_header = meant!(scope_meaning(alloc, known, EVENT_HEADER, items)?);
     let common = meant!(scope_meaning(alloc, known, EVENT_CONTEXT, items)?);
-    holds!(has_member(&context.members, "packet_size"));
-    holds!(has_member(&context.members, "content_size"));
+    holds!(has_member(&context.members, PACKET_SIZE));
+    holds!(has_member(&context.members, CONTENT_SIZE));
     Ok(Some(Stream {
         id,
         context,

@@ -5,12 +5,9 @@ ghost use Rattle.tsdl_meaning.specs.Words.{kind_of};
 ghost use Rattle.tsdl_grammar.specs.declared.fault.MetaFaultKind.TheVariants as faults;
 
 use crate::lookup::{number_or_zero, scope_in};
-use crate::stream::PACKET_CONTEXT;
+use crate::stream::{CONTENT_SIZE, PACKET_CONTEXT, PACKET_SIZE};
 use tsdl_flaw::{Flaw, Sizeless};
 use tsdl_grammar::{Block, Item};
-
-/// The members of a packet context that have its sizes.
-const SIZES: [&str; 2] = ["packet_size", "content_size"];
 
 /// The flaw of blocks of which a stream lacks a size: the first such stream, and the first size that it lacks.
 pub(crate) fn flaw_of_sizes(blocks: &[Block]) -> Flaw
@@ -28,7 +25,8 @@ pub(crate) fn flaw_of_sizes(blocks: &[Block]) -> Flaw
 
 /// The first size that a stream of these items lacks.
 fn sizeless_in(items: &[Item]) -> Option<Sizeless> {
-    let mut sizes = SIZES.iter();
+    let names = [PACKET_SIZE, CONTENT_SIZE];
+    let mut sizes = names.iter();
     let size = *sizes.find(|size| !has_in_context(size, items))?;
     let stream = number_or_zero("id", items)?;
     Some(Sizeless { stream, size })
