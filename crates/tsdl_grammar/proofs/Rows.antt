@@ -1,7 +1,7 @@
 -- Worked rows of what blocks mean: a small trace of one stream and one event, and texts that mean nothing.
 use Rattle.std.proofs.Common.{◌≡◌, ℕ, List, [], ◌∷◌, map, Option, Some, None, refl, codes, option_map, replicate}
 use Rattle.ctf_types.specs.{declared.ByteOrder.TheVariants.Big, declared.MemberType.MemberType, declared.MemberType.TheVariants.{Plain, Dyn}}
-use Rattle.ctf_types.specs.declared.Length.TheVariants.{Auto, At}
+use Rattle.ctf_types.specs.{Allowed.elements_of, declared.Length.TheVariants.{Auto, At}}
 use Rattle.tsdl_grammar.specs.{declared.tree.Number.Number, declared.tree.Name.Name, declared.tree.Attribute.Attribute, declared.tree.Bracket.Bracket}
 use Rattle.tsdl_grammar.specs.{declared.tree.MemberTree.MemberTree, declared.tree.Item.Item, declared.tree.Block.Block}
 use Rattle.tsdl_grammar.specs.declared.tree.Value.TheVariants as values
@@ -89,7 +89,7 @@ texts : (option_map (λ m. map (λ s. map (λ x. x.0) s.context.members) m.strea
     × (option_map (λ m. map (λ s. map (λ e. e.name) s.events) m.streams) (text_meta (event [] ∷ stream sizes ∷ trace ∷ [])) ≡ Some ((codes "e" ∷ []) ∷ []))
     × (option_map (λ m. map (λ s. map (λ e. map is_dyn e.fields.members) s.events) m.streams) (text_meta (small (brackets.Member (codes "n") ∷ []))) ≡ Some (((None ∷ Some 0 ∷ []) ∷ []) ∷ []))
     × (option_map (λ m. m.order) (text_meta (header (size_of 16) (codes "stream_id") ∷ [])) ≡ Some Big)
-unfolding text_meta streams_meaning trace_uuid header_meaning environment_meaning stream_meaning event_meaning struct_meaning struct_type members_meaning member_meaning kind_meaning int_meaning int_type bracketed
+unfolding text_meta streams_meaning trace_uuid header_meaning environment_meaning stream_meaning event_meaning struct_meaning struct_type members_meaning member_meaning kind_meaning int_meaning int_type bracketed elements_of
 texts = (refl, refl, refl, refl)
 
 -- a length that doesn't stand before, no sizes, no stream of an event, no trace, two of them, a stream that stands twice, nine brackets, and a header with a narrow magic number or a signed stream number

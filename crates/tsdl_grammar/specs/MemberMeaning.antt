@@ -1,12 +1,12 @@
 -- What a member means (CTF 1.8.3, sections 4.1.8, 4.2.3 to 4.2.5): an integer, an enumeration or a string, in as many arrays as it has
 -- brackets, of which the first is the outermost. A name in the first bracket makes it a sequence: it names an unsigned integer member
 -- that stands before, and the sequence's elements have bits.
-use Rattle.std.specs.Prelude.{ℕ, ◌*◌, max, Bool, true, false, not, ◌&&◌, nat_lt, nat_le, List, [], ◌∷◌, length, Option, Some, None, ℤ, int_le, codes, position, bytes_eq, option_map}
+use Rattle.std.specs.Prelude.{ℕ, Bool, true, false, not, ◌&&◌, nat_lt, nat_le, List, [], ◌∷◌, length, Option, Some, None, ℤ, int_le, codes, position, bytes_eq, option_map}
 use Rattle.std.specs.List.{list_all}
 use Rattle.ctf_types.specs.{declared.IntType.IntType, declared.EnumType.EnumType, declared.Mapping.Mapping, declared.FieldType.FieldType}
 use Rattle.ctf_types.specs.{declared.FieldType.TheVariants.{Int, Enum, Str, Static}, declared.MemberType.MemberType}
 use Rattle.ctf_types.specs.{declared.MemberType.TheVariants.{Plain, Dyn}, declared.Length.TheVariants.At}
-use Rattle.ctf_types.specs.Chain.{Leaf, Number, Labelled, ByteString}
+use Rattle.ctf_types.specs.{Allowed.elements_of, Chain.{Leaf, Number, Labelled, ByteString}}
 use Rattle.ctf_types.specs.declared.limits.TheConstants.{MAX_ARRAYS, MAX_ELEMENTS, MAX_RANGES}
 use Rattle.tsdl_grammar.specs.{declared.tree.Value.Value, declared.tree.Attribute.Attribute, declared.tree.Label.Label}
 use Rattle.tsdl_grammar.specs.{declared.tree.Label.TheVariants.{Quoted, Bare}, declared.tree.Entry.Entry, declared.tree.Entries.Entries}
@@ -75,11 +75,6 @@ field_of ByteString = Str
 abbrev pub arrays_of : Leaf → List ℕ → FieldType
 arrays_of leaf [] = field_of leaf
 arrays_of leaf (n ∷ ns) = Static (record { lengths = ns; leaf = leaf }) n
-
--- how many elements arrays of these lengths have, a length of 0 counted as 1
-abbrev pub elements_of : List ℕ → ℕ
-elements_of [] = 1
-elements_of (n ∷ ns) = max 1 n * elements_of ns
 
 -- static arrays in one another, no deeper and of no more elements than the limits
 abbrev pub are_lengths : List ℕ → Bool

@@ -14,7 +14,6 @@ use Rattle.ctf_types.specs.declared.Mapping.{Mapping}
 use Rattle.ctf_types.specs.declared.Length.TheVariants.{At}
 use Rattle.ctf_types.specs.Chain.{Number}
 use Rattle.ctf_types.specs.FieldTypes.{chain_of}
-use Rattle.ctf_types.specs.Allowed as allowed
 use Rattle.tsdl_grammar.specs.declared.atom.Atom.TheVariants as atoms
 use Rattle.tsdl_grammar.specs.declared.token.Mark.TheVariants as marks
 use Rattle.tsdl_grammar.specs.declared.tree.Number as numbers
@@ -105,16 +104,11 @@ kind_allowed known (kinds.Text attrs) leaf g e = text_allowed known.clocks attrs
 
 -- ---- arrays
 
-same_elements : (ns : List ℕ) → allowed.elements_of ns ≡ elements_of ns
-unfolding allowed.elements_of
-same_elements [] = refl
-same_elements (n ∷ ns) = grind (arith, same_elements ns)
-
 chain_of_arrays : (leaf : Leaf) (ns : List ℕ) → chain_of (arrays_of leaf ns) ≡ record { lengths = ns; leaf = leaf }
 chain_of_arrays leaf ns = grind arith
 
 nested : (ns : List ℕ) → are_lengths ns ≡ true → IsNest ns
-nested ns h = grind (arith, nat_tests, same_elements ns, h)
+nested ns h = grind (arith, nat_tests, h)
 
 array_allowed : (clocks : List (List ℕ)) (leaf : Leaf) (ns : List ℕ) → IsLeaf clocks leaf → IsNest ns → IsField clocks (arrays_of leaf ns)
 array_allowed clocks leaf ns l n = subst (λ (c : Chain). IsLeaf clocks c.leaf × IsNest c.lengths) (sym (chain_of_arrays leaf ns)) (l, n)
@@ -132,7 +126,7 @@ place_counts before w i e =
 
 bracketed_allowed : (clocks : List (List ℕ)) (before : List (List ℕ × MemberType)) (leaf : Leaf) (bs : List Bracket) (t : MemberType) → IsLeaf clocks leaf
     → bracketed before leaf bs ≡ Some t → IsMember clocks before t
-unfolding bracketed
+unfolding bracketed elements_of
 bracketed_allowed clocks before leaf [] t l e = grind (arith, array_allowed clocks leaf [] l (nested [] refl), e)
 bracketed_allowed clocks before leaf (brackets.Count n ∷ bs) t l e =
     let a = bind_some (each count_of (brackets.Count n ∷ bs)) (λ lengths. provided (are_lengths lengths) (Some (Plain (arrays_of leaf lengths)))) t e in

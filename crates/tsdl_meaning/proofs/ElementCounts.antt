@@ -7,14 +7,17 @@ product_at_least : (a b : ℕ) → 1 ≤ b → a ≤ a * b
 product_at_least a b h = omega (arith, mul-le-mul_left a h)
 
 pub one_at_least : (ns : List ℕ) → 1 ≤ elements_of ns
+unfolding elements_of
 one_at_least [] = omega arith
 one_at_least (n ∷ ns) = omega (arith, product_at_least (max 1 n) (elements_of ns) (one_at_least ns))
 
 pub first_at_most : (ns : List ℕ) → get_or ns 0 0 ≤ elements_of ns
+unfolding elements_of
 first_at_most [] = omega arith
 first_at_most (n ∷ ns) = omega (arith, product_at_least (max 1 n) (elements_of ns) (one_at_least ns))
 
 pub elements_behind : (ns : List ℕ) (n : ℕ) → elements_of (ns ++ n ∷ []) ≡ elements_of ns * max n 1
+unfolding elements_of
 elements_behind [] n = omega arith
 elements_behind (m ∷ ns) n = ap (λ (k : ℕ). max 1 m * k) (elements_behind ns n) ∙ sym (mul_assoc (max 1 m) (elements_of ns) (max n 1))
 

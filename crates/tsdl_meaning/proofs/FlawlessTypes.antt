@@ -147,6 +147,11 @@ seen (Some v) p e h = ap is_some (sym e)
 all_bits : (ns : List ℕ) (n : ℕ) → list_all (nat_lt 0) ns ≡ true → 0 < n → list_all (nat_lt 0) (ns ++ n ∷ []) ≡ true
 all_bits ns n all some = grind (arith, nat_tests, all_one_more (nat_lt 0) ns n all, some)
 
+-- before any bracket
+pub no_brackets : (before : List (List ℕ × MemberType)) → AreBrackets before [] (record { is_sequence = false; count = 0; elements = 1 })
+unfolding elements_of
+no_brackets before = record { numbers = []; counted = refl; made = refl; few = omega arith; small = omega arith; shape = inl (refl, refl) }
+
 -- one more number
 pub count_more : (before : List (List ℕ × MemberType)) (done : List Bracket) (old new : Lengths) (number : Number) (n : ℕ) → AreBrackets before done old → natural number ≡ Some n → KeepsLimits old n new
     → Adds old n new → AreBrackets before (done ++ brackets.Count number ∷ []) new
@@ -187,6 +192,7 @@ none_there (b ∷ done) numbers e z = absurd (grind (arith, e, z))
 -- the name of a length, which is the first
 pub name_more : (before : List (List ℕ × MemberType)) (done : List Bracket) (old : Lengths) (name : List ℕ) → AreBrackets before done old → old.is_sequence ≡ false → old.count ≡ 0
     → IsSome (length_place before name) → AreBrackets before (done ++ brackets.Member name ∷ []) (record old { is_sequence = true })
+unfolding elements_of
 name_more before done old name s plain none place = elim s.shape [
   | inr named ↦ absurd (let never : false ≡ true = sym plain ∙ named.0 in cc)
   | inl numbered ↦
@@ -203,6 +209,7 @@ name_more before done old name s plain none place = elim s.shape [
 
 -- brackets with these numbers have as many lengths, and as many elements
 numbered_are : (done : List Bracket) (ns : List ℕ) → HaveNumbers done ns → (depth done ≡ length ns) × (elements done ≡ elements_of ns)
+unfolding elements_of
 numbered_are [] ns e = grind (arith, e)
 numbered_are (b ∷ done) ns e = grind (arith, numbered_are done, e)
 

@@ -1,12 +1,13 @@
 -- What the brackets of a member are in which no flaw is found: each has a number, but that the first may name a member before, and their lengths keep the limits.
 use Rattle.std.specs.Prelude.{◌≡◌, ℕ, ◌<◌, ◌≤◌, ◌⊎◌, true, false, List, ◌∷◌, length, Some, IsSome, nat_lt}
 use Rattle.std.specs.List.{list_all}
+use Rattle.ctf_types.specs.Allowed.{elements_of}
 use Rattle.ctf_types.specs.declared.MemberType.{MemberType}
 use Rattle.ctf_types.specs.declared.limits.TheConstants.{MAX_ARRAYS, MAX_ELEMENTS}
 use Rattle.tsdl_grammar.specs.declared.tree.Bracket.{Bracket}
 use Rattle.tsdl_grammar.specs.declared.tree.Bracket.TheVariants as brackets
 use Rattle.tsdl_grammar.specs.Steps.{each}
-use Rattle.tsdl_grammar.specs.MemberMeaning.{elements_of, count_of, length_place}
+use Rattle.tsdl_grammar.specs.MemberMeaning.{count_of, length_place}
 use Rattle.tsdl_meaning.specs.declared.judge.brackets.Lengths.{Lengths}
 
 -- one more length keeps the limits behind these, and leaves a sequence's elements bits

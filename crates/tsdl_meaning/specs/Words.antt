@@ -1,5 +1,5 @@
 -- The words that the clauses and proofs of this crate speak in, brought together from the files that define them.
-pub use Rattle.ctf_types.specs.Allowed.{HasBits, IsByteType, IsCount, IsEvent, IsField, IsIdentity, IsLeaf, IsMagic, IsMappedTo, IsMember, IsMetadata, IsNest, IsRange, IsStream, IsStruct, IsUnsigned, Where, clock_names}
+pub use Rattle.ctf_types.specs.Allowed.{HasBits, IsByteType, IsCount, IsEvent, IsField, IsIdentity, IsLeaf, IsMagic, IsMappedTo, IsMember, IsMetadata, IsNest, IsRange, IsStream, IsStruct, IsUnsigned, Where, clock_names, elements_of}
 pub use Rattle.ctf_types.specs.Chain.{ByteString, Chain, Labelled, Leaf}
 pub use Rattle.ctf_types.specs.FieldTypes.{chain_of}
 pub use Rattle.ctf_types.specs.Members.{names_in}
@@ -44,7 +44,7 @@ pub use Rattle.tsdl_grammar.specs.Denotes.{Denotes, clock_in, environment_in, ev
 pub use Rattle.tsdl_grammar.specs.IntegerMeaning.{Known, base_value, base_words, clock_value, default_align, has_only, int_attrs, int_meaning, int_type, order_value, order_words}
 pub use Rattle.tsdl_grammar.specs.Laws.{NumbersRise, SaysClock, SaysEvent, SaysMetadata, SaysStream}
 pub use Rattle.tsdl_grammar.specs.Lookups.{are_distinct, attr, attr_in, attr_names, attrs_in, has_parts, is_among, is_word, no_two, same_words, scope, scope_in, scopes_in, words_of}
-pub use Rattle.tsdl_grammar.specs.MemberMeaning.{are_lengths, arrays_of, bracketed, count_of, elements_of, encoding_value, encoding_words, entries_of, entry_meaning, enum_meaning, field_of, high_of, is_unsigned, kind_meaning, label_of, length_place, member_meaning, text_meaning}
+pub use Rattle.tsdl_grammar.specs.MemberMeaning.{are_lengths, arrays_of, bracketed, count_of, encoding_value, encoding_words, entries_of, entry_meaning, enum_meaning, field_of, high_of, is_unsigned, kind_meaning, label_of, length_place, member_meaning, text_meaning}
 pub use Rattle.tsdl_grammar.specs.Spelling.{align_toks, attr_toks, attrs_toks, block_and_semicolon, block_toks, braced, bracket_toks, closing_toks, dotted, entries_toks, entry_toks, fact_toks, high_toks, int_toks, item_toks, items_toks, kind_toks, label_toks, mark, member_toks, name_toks, named_fact_toks, next_entry_toks, number_toks, scope_toks, sign_toks, struct_toks, text_toks, value_toks, word}
 pub use Rattle.tsdl_grammar.specs.Steps.{at_most_one, by_number, each, insert_numbered, only, provided, ◌>>=◌}
 pub use Rattle.tsdl_grammar.specs.StructureMeaning.{align_of, align_with, has_member, members_meaning, scope_meaning, struct_meaning, struct_type, structure_of}

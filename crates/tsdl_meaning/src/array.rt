@@ -10,6 +10,7 @@ use std::alloc::{AllocError, Global};
 use tsdl_grammar::Bracket;
 
 /// Arrays of these lengths.
+#[tactic(auto, unfolding(ctf_types::specs::Allowed::elements_of))]
 pub(crate) fn arrays_of(
     alloc: Global,
     field: FieldType,
@@ -35,6 +36,7 @@ pub(crate) fn are_lengths(lengths: &[u64]) -> bool
 }
 
 /// Whether arrays of these lengths have no more elements than the limit, a length of 0 counted as 1.
+#[tactic(auto, unfolding(ctf_types::specs::Allowed::elements_of))]
 fn are_few(lengths: &[u64]) -> bool
     ensures { result ≡ nat_le (elements_of lengths.now) MAX_ELEMENTS }
 {

@@ -1,8 +1,7 @@
 -- What the trees of field types mean: the integer, the enumeration, the string or the array that they were made of.
 use Rattle.tsdl_writer.proofs.TreeWords.{nat_tests, get_or, All, All-head, All-tail, At, Contains, Dyn, list_all, IsLeaf, IsMappedTo, bytes_eq-Decides, sym, Base, Bool, FieldType, IntType, IsNest, IsRange, Known, Labelled, Leaf, List, Mapping, MemberType, None, Option, Plain, Some, [], are_lengths, arith, arrays_of, attributes, base_value, bracketed, bytes_eq, chain_of, clock_value, count_bracket, count_of, each, entry_meaning, entry_tree, enum_meaning, false, flag_value, int_meaning, int_type, int_type-own, integer_attributes, ints, kind_meaning, kind_tree, length-map, list_any, map, refl, text_meaning, true, ℕ, ◌∙◌, ◌∷◌, ◌≡◌}
 use Rattle.std.proofs.lemmas.List.Folds.{list_any_at}
-use Rattle.ctf_types.specs.Allowed as allowed
-use Rattle.tsdl_grammar.specs.MemberMeaning.{elements_of}
+use Rattle.ctf_types.specs.Allowed.{elements_of}
 
 clock_there : (clocks : List (List ℕ)) (name : List ℕ) → Contains clocks name → list_any (bytes_eq name) clocks ≡ true
 clock_there clocks name (k, below, same) = list_any_at (bytes_eq name) clocks k name below ((bytes_eq-Decides name (get_or clocks k name)).1 (sym same))
@@ -34,13 +33,8 @@ pub count_meant : (ns : List ℕ) → each count_of (map count_bracket ns) ≡ S
 count_meant [] = refl
 count_meant (n ∷ ns) = rw (count_meant ns) refl
 
-elements_same : (ns : List ℕ) → elements_of ns ≡ allowed.elements_of ns
-unfolding allowed.elements_of
-elements_same [] = refl
-elements_same (n ∷ ns) = rw (elements_same ns) refl
-
 pub lengths_allowed : (ns : List ℕ) → IsNest ns → are_lengths ns ≡ true
-lengths_allowed ns h = grind (arith, nat_tests, elements_same ns, h)
+lengths_allowed ns h = grind (arith, nat_tests, h)
 
 pub arrays_of-chain : (t : FieldType) → arrays_of (chain_of t).leaf (chain_of t).lengths ≡ t
 arrays_of-chain t = grind arith
@@ -58,7 +52,7 @@ AreAutomatic ms = list_all (λ m. is_automatic m.1) ms ≡ true
 
 -- no array at all
 pub no_nest : IsNest []
-unfolding allowed.elements_of
+unfolding elements_of
 no_nest = record { depth = omega arith; size = omega arith }
 
 pub plain_meant : (before : Members) (t : FieldType) → IsNest (chain_of t).lengths → bracketed before (chain_of t).leaf (map count_bracket (chain_of t).lengths) ≡ Some (Plain t)

@@ -44,6 +44,7 @@ impl Lengths {
 }
 
 /// `{ "[" (number | identifier) "]" }`, behind these members.
+#[tactic(auto, using(crate::proofs::FlawlessTypes::no_brackets))]
 pub(crate) fn judge_brackets(
     alloc: Global,
     before: &Members,
