@@ -3,11 +3,11 @@ use Rattle.tsdl_writer.proofs.TreeWords.{lit<, All, All-contains, All-head, All-
 use Rattle.tsdl_writer.proofs.Writable.{Can, both, whole}
 use Rattle.tsdl_writer.proofs.FieldMeanings.{Members, AreAutomatic}
 use Rattle.std.proofs.Math.Nat.{le-mul_of_pos_right, mul-le-mul_right, mul-pos}
-use Rattle.ctf_types.specs.Allowed.{elements_of}
+use Rattle.ctf_types.specs.{Allowed.elements_of, declared.limits.TheConstants.{LARGEST_ALIGN, MAX_ELEMENTS}}
 
--- an alignment is at most 4,096
-pub align_fits : (a : ℕ) → 0 < a → 4096 % a ≡ 0 → a < 2 ^ 64
-align_fits a h e = elim (cases_lt 4096 a) [ inl lt ↦ absurd (omega (arith, e, mod-eq_of_lt lt)) | inr le ↦ omega arith ]
+-- an alignment is no larger than the largest one
+pub align_fits : (a : ℕ) → 0 < a → LARGEST_ALIGN % a ≡ 0 → a < 2 ^ 64
+align_fits a h e = elim (cases_lt LARGEST_ALIGN a) [ inl lt ↦ absurd (omega (arith, e, mod-eq_of_lt lt)) | inr le ↦ omega arith ]
 
 pub flag_named : (b : Bool) → IsMetadataName (flag_word b)
 unfolding is_identifier
@@ -54,7 +54,7 @@ unfolding elements_of
 some_elements [] = omega arith
 some_elements (n ∷ ns) = mul-pos (omega arith) (some_elements ns)
 
-counts_writable : (ns : List ℕ) → elements_of ns ≤ 2 ^ 20 → Can (flat_map bracket_toks (map count_bracket ns))
+counts_writable : (ns : List ℕ) → elements_of ns ≤ MAX_ELEMENTS → Can (flat_map bracket_toks (map count_bracket ns))
 unfolding elements_of
 counts_writable [] h = tt
 counts_writable (n ∷ ns) h =
