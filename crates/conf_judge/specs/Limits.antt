@@ -1,6 +1,6 @@
 -- The limits of a configuration's size: how many entries its maps and lists have, how long its texts are, how large an alignment
 -- is, and how static arrays nest. They are this project's own. The limits that are passed stand in the order of a walk.
-use Rattle.std.specs.Prelude.{◌&&◌, ◌||◌, ◌%◌, ◌==◌, ◌++◌, ◌+◌, ◌*◌, ℕ, zero, suc, nat_le, nat_eq, Bool, true, false, List, [], map, length, Option, Some, None, is_some, option_and_then, unwrap_or, Result, Ok, Err, codes, ⊤, if◌then◌else◌}
+use Rattle.std.specs.Prelude.{◌&&◌, ◌++◌, ◌+◌, ◌*◌, ℕ, zero, suc, nat_le, nat_eq, Bool, true, false, List, [], map, length, Option, Some, None, is_some, option_and_then, unwrap_or, Result, Ok, Err, codes, ⊤, if◌then◌else◌}
 use Rattle.std.specs.Option.{option_map_or}
 use Rattle.std.specs.Str.{bytes_eq}
 use Rattle.serde_json.specs.Data.{Data, null, boolean, number, string, array, object, Items, no_items, item, Members, no_members, member}
@@ -34,13 +34,13 @@ abbrev pub bytes_fit : ℕ → Data → Bool
 bytes_fit most (string s) = nat_le (length s) most
 bytes_fit most _ = true
 
--- a power of two up to a power of two is a divisor of it
-abbrev pub divides : ℕ → Option ℕ → Bool
-divides high None = true
-divides high (Some n) = nat_eq n 0 || (high % n == 0)
+-- a number is at most so large
+abbrev pub number_fits : ℕ → Option ℕ → Bool
+number_fits high None = true
+number_fits high (Some n) = nat_le n high
 
 unfoldable pub power_fits : ℕ → Data → Bool
-power_fits high d = divides high (as_natural d)
+power_fits high d = number_fits high (as_natural d)
 
 -- ---- static arrays: so many in one another, and so many elements in all, an empty one counted as one
 

@@ -98,7 +98,7 @@ fn check_property(alloc: Global, place: Place, name: &str, value: &Value) -> Res
     check_content(alloc, content_at(place, name).unwrap_or(&ANYTHING), value)
 }
 
-/// Whether a value is within the limits of its content, whatever it holds. A power of two that is at most another divides it.
+/// Whether a value is within the limits of its content, whatever it holds.
 #[tactic(auto, unfolding(crate::specs::Limits::fits, crate::specs::Limits::power_fits))]
 fn fits(content: &Content, value: &Value) -> bool
     ensures { result ≡ fits_of content.now (view value.now) }
@@ -109,9 +109,7 @@ fn fits(content: &Content, value: &Value) -> bool
                 .as_str()
                 .is_none_or(|text| text.len() as u64 <= most_bytes)
         }
-        Content::PowerOfTwo { high } => {
-            as_natural(value).is_none_or(|number| number == 0 || high % number == 0)
-        }
+        Content::PowerOfTwo { high } => as_natural(value).is_none_or(|number| number <= high),
         Content::At(place) => place_fits(place, value),
         _ => true,
     }

@@ -1,9 +1,9 @@
 -- A whole number that is in its range is a natural number in it; what a range that was read says; and the alignments of fields, where one
 -- that passes no limit is the very number that is read.
-use Rattle.std.proofs.Common.{◌≡◌, ◌≤◌, ℕ, ℤ, pos, negsuc, true, false, List, Some, Ok, nat_le, arith, refl, ap, subst, ◌∙◌, ◌<◌, Bool, int_le, codes, option_and_then, unwrap_or}
+use Rattle.std.proofs.Common.{◌≡◌, ◌≤◌, ◌^◌, inl, inr, ℕ, ℤ, pos, negsuc, true, false, List, Some, Ok, nat_le, arith, refl, ap, subst, ◌∙◌, ◌<◌, Bool, int_le, codes, option_and_then, unwrap_or}
 use Rattle.conf_laws.proofs.Readings.{optional_found}
 use Rattle.conf_laws.proofs.Sound.{HasRow, RowsSound, needed_sound}
-use Rattle.conf_laws.proofs.Words.{LARGEST_ALIGN, IsWhole, IsRange, Place, Whole, Needed, is_null, itself_of, Known, leaf_of, whole_from, is_power_of_two, divides, numbers_of, end_of, pair_of, single_of, range_of, index, whole_of, at, both_read, read_there, ok_same, as_natural, Data, Members, array, Items, no_items, item, nat_tests, is_alignment, alignment, natural, lowest, highest, integer_align, default_align, default_number, size_of, align_of}
+use Rattle.conf_laws.proofs.Words.{LARGEST_ALIGN, IsWhole, IsRange, Place, Whole, Needed, is_null, itself_of, Known, leaf_of, whole_from, is_power_of_two, divisors_of_pow, pow_mono, cases_lt, agree_below_at, numbers_of, end_of, pair_of, single_of, range_of, index, whole_of, at, both_read, read_there, ok_same, as_natural, Data, Members, array, Items, no_items, item, nat_tests, is_alignment, alignment, natural, lowest, highest, integer_align, default_align, default_number, size_of, align_of}
 use Rattle.conf_laws.proofs.Words.places
 
 -- a whole number that was read, and that it is between its bounds
@@ -84,10 +84,19 @@ pub alignment_or : (name : List ℕ) (otherwise : ℕ) (ms : Members) → is_ali
 unfolding alignment
 alignment_or name otherwise ms default = grind (arith, default)
 
-module _ (ms : Members) (n : ℕ) (power : is_power_of_two (pos n) ≡ true) (fits : divides LARGEST_ALIGN (Some n) ≡ true) where
+-- a power of two up to 4,096 is a divisor of it
+power_divides : (n : ℕ) → is_power_of_two (pos n) ≡ true → n ≤ LARGEST_ALIGN → is_alignment n ≡ true
+power_divides n power most =
+    let (k, below, is) = divisors_of_pow 63 n (grind (arith, nat_tests, power)) (grind (arith, nat_tests, power)) in
+    elim (cases_lt k 13) [
+      | inl small ↦ ap is_alignment is ∙ agree_below_at (λ j. is_alignment (2 ^ j)) (λ j. true) 13 k refl small
+      | inr large ↦ let above : 2 ^ 13 ≤ 2 ^ k = pow_mono large in omega (arith, above, most, is)
+    ]
+
+module _ (ms : Members) (n : ℕ) (power : is_power_of_two (pos n) ≡ true) (most : n ≤ LARGEST_ALIGN) where
   kept : (name : List ℕ) → natural name ms ≡ Some n → alignment name ms ≡ Some n
   unfolding alignment
-  kept name is = grind (arith, nat_tests, power, fits, is)
+  kept name is = grind (arith, power_divides n power most, is)
 
   pub integer_kept : natural (codes "alignment") ms ≡ Some n → integer_align ms ≡ n
   unfolding integer_align

@@ -5,7 +5,7 @@ use Rattle.conf_laws.proofs.Readings.{some_same, at_member, class_told, only_sta
 use Rattle.conf_laws.proofs.Sound.{fits_there, limits_at, first_limits, first_item_limits}
 use Rattle.conf_laws.proofs.TableFlawLaws.{seen, refused_among}
 use Rattle.conf_laws.proofs.ValueFlawLaws.{none_there}
-use Rattle.conf_laws.proofs.Words.{MAX_ARRAYS, MAX_ELEMENTS, MAX_LABEL_BYTES, All-weaker, All-append, All, HasMember, get_item, IsArray, HasElement, Nest, product, HasTooManyElements, PassesAt, IsLongText, IsNoPowerUpTo, PassesBy, PassesLimitOf, entries_of, content_under, Place, Content, Entries, class_of, told_by, times, at_least_one, elements, elements_in_array, within_limit, bytes_fit, power_fits, is_outermost, arrays_fit, count_of, at_most, ranges_fit, place_fits, fits, key_fits, inner_limits, item_limits, member_limits, configuration_limits, content_limits, natural_in, place_of_properties, item_content, is_static_array, Flaw, key, index, here, within, refusal, Limit, Data, object, Members, array, Items, no_items, item, no_members, member, get_member, nat_tests, mul-one, one-le-mul, mul-mod_right, leb-true, leb-false, true≢false, and_cases, All-nil, All-cons, All-contains, mul-le, option_map_or}
+use Rattle.conf_laws.proofs.Words.{MAX_ARRAYS, MAX_ELEMENTS, MAX_LABEL_BYTES, All-weaker, All-append, All, HasMember, get_item, IsArray, HasElement, Nest, product, HasTooManyElements, PassesAt, IsLongText, IsLargeNumber, PassesBy, PassesLimitOf, entries_of, content_under, Place, Content, Entries, class_of, told_by, times, at_least_one, elements, elements_in_array, within_limit, bytes_fit, power_fits, is_outermost, arrays_fit, count_of, at_most, ranges_fit, place_fits, fits, key_fits, inner_limits, item_limits, member_limits, configuration_limits, content_limits, natural_in, place_of_properties, item_content, is_static_array, Flaw, key, index, here, within, refusal, Limit, Data, object, Members, array, Items, no_items, item, no_members, member, get_member, nat_tests, mul-one, one-le-mul, leb-true, leb-false, true≢false, and_cases, All-nil, All-cons, All-contains, mul-le, option_map_or}
 use Rattle.conf_laws.proofs.Words.places
 use Rattle.conf_laws.proofs.Words.contents
 use Rattle.conf_laws.proofs.Words.keys
@@ -98,9 +98,9 @@ counted_few d m counted many = grind (arith, counted, many)
 long_fails : (most : ℕ) (d : Data) → (bytes_fit most d ≡ false) ↔ IsLongText most d
 long_fails most d = grind (arith, nat_tests)
 
-power_fails : (high : ℕ) (d : Data) → (power_fits high d ≡ false) ↔ IsNoPowerUpTo high d
+power_fails : (high : ℕ) (d : Data) → (power_fits high d ≡ false) ↔ IsLargeNumber high d
 unfolding power_fits
-power_fails high d = grind (arith, nat_tests, mul-mod_right)
+power_fails high d = grind (arith, nat_tests)
 
 module _ (place : Place) (d : Data) where
   entries_told : at_most (entries_of place) (count_of d) ≡ false → PassesAt place d

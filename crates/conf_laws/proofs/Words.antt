@@ -1,5 +1,5 @@
 -- The words and lemmas of std and of the crates below that the proofs speak of, and those of the definitions.
-pub use Rattle.std.proofs.{Math.Bool.and-false, Math.Nat.{mul-mod_right, mul-one, one-le-mul}, Math.Pow.pow_mono}
+pub use Rattle.std.proofs.{Math.Bool.and-false, Math.Nat.{mul-one, one-le-mul}, Math.Pow.pow_mono}
 pub use Rattle.std.proofs.lemmas.Bool.{agree_below_at, and_cases, and_from, and_parts, cases_lt, false_from_ne_true, false≢true, leb-false}
 pub use Rattle.std.proofs.lemmas.Bool.{leb-true, ltb-false, or_cases, or_left, or_parts, or_right, true≢false}
 pub use Rattle.std.proofs.lemmas.List.Elements.{All-append, All-cons, All-contains, All-from_recursion, All-map, All-nil, All-push, All-weaker}
@@ -35,7 +35,7 @@ unfoldable pub use Rattle.conf_judge.specs.Numbers.{inside_of, is_inside, natura
 unfoldable pub use Rattle.conf_judge.specs.{Places.{is_position, item_content, own_place, place_of_properties}, Shapes.{is_identifier, shape_of}}
 pub use Rattle.conf_judge.specs.Flaws.{admitted, configuration_flaws, content_flaws, inner_flaws, is_needed, is_null, item_flaws, left_out, member_flaws}
 pub use Rattle.conf_judge.specs.{Flaws.{property_flaws, row_there, rows_there, told_by}, Known.{Known, is_true, nothing, says_default, with_taken}}
-pub use Rattle.conf_judge.specs.Limits.{at_least_one, at_most, bytes_fit, configuration_limits, content_limits, count_of, divides, elements, elements_in_array, inner_limits}
+pub use Rattle.conf_judge.specs.Limits.{at_least_one, at_most, bytes_fit, configuration_limits, content_limits, count_of, elements, elements_in_array, inner_limits}
 pub use Rattle.conf_judge.specs.Limits.{item_limits, member_limits, ranges_in as counted_ranges, times, within_limit}
 pub use Rattle.conf_judge.specs.{Names.{class_of_member, is_taken, take, take_all, take_each, with_names}, Numbers.{all_numbers, end_of, single_of}}
 pub use Rattle.conf_judge.specs.{Leaves.{is_power_of_two, only_if}, Shapes.{element_has_bits, has_bits, is_byte, is_eight, is_number}}
@@ -63,7 +63,7 @@ pub use Rattle.ctf_types.specs.{declared.MemberType.TheVariants.{Dyn, Plain}, de
 pub use Rattle.conf_laws.specs.Around.{Around, HasBehind, HasBits, HasDefault, HasNumber, IsBehindDefault, IsBeside, IsDynamic, IsTaken, Parts, SaysDefault, TakesName}
 pub use Rattle.conf_laws.specs.{Around.{enumeration_around, item_of, levels_around, member_of}, Rules.{KeepsRules, KeepsStreamRules, RecordHasBits}}
 pub use Rattle.conf_laws.specs.TableFlaws.{HasNoBits, HasNotItsRows, IsByte, IsFlawOf, IsIdentifier, IsLeftOut, IsNoClassAt, IsNoShapeAt, IsPropertyOf}
-pub use Rattle.conf_laws.specs.TableLimits.{HasElement, HasTooManyElements, IsArray, IsLongText, IsNoPowerUpTo, Nest, PassesAt, PassesBy, PassesLimitOf, product}
+pub use Rattle.conf_laws.specs.TableLimits.{HasElement, HasTooManyElements, IsArray, IsLargeNumber, IsLongText, Nest, PassesAt, PassesBy, PassesLimitOf, product}
 pub use Rattle.conf_laws.specs.ValueFlaws.{IsNoDefault, IsNoEntry, IsNoFeature, IsNoKey, IsNoLabel, IsNoLevel, IsNoMemberName, IsNoNameAt, IsNoPowerOfTwo, IsNoRange}
 pub use Rattle.conf_laws.specs.ValueFlaws.{IsNoSizeFeature, IsNoSomeList, IsNoSomeObject, IsNoValueOf, IsNoWholeOrText, IsNoneAt, IsPair, IsPowerOfTwo, IsRange, IsWhole}
 pub use Rattle.conf_laws.specs.ValueFlaws.{words_of_classes}

@@ -3,8 +3,9 @@
 use Rattle.std.proofs.Common.{◌≡◌, List, [], ◌∷◌, true, Some, None, inl, inr, refl, arith, ◌<◌, ℕ, length, IsSome, subst, codes}
 use Rattle.conf_laws.proofs.Traces.{draft_allowed}
 use Rattle.conf_laws.proofs.Readings.{some_none}
-use Rattle.conf_laws.proofs.Words.{MAX_TEXT_BYTES, Parts, KeepsStreamRules, KeepsRules, IsNoClassAt, HasNotItsRows, IsFlawOf, PassesLimitOf, IsNoDefault, IsNoMemberName, class_words, admits_class, is_class, rows_of, entries_of, content_under, presence_under, words_of, At, OneFlag, class_of, class_rule, orders_there, all_there, resolved_content, is_left_out, configuration_flaws, other_class, any_object, form_of, itself_of, inside, behind, leaf_of, whole_from, fits, place_fits, arrays_fit, is_outermost, ranges_fit, key_fits, configuration_limits, power_fits, key_of, key_by, free_of, names_beside, is_dynamic, natural_in, is_position, own_place, place_of_properties, item_content, shape_of, Flaw, PathPart as Place, key, index, here, Ascends, whole_of, WrongKind, Missing, Unknown, OutOfRange, NameClash, Limit, FaultKind, IsNoObject, name_of, is_reserved, plain_name_of, as_natural, Data, null, boolean, number, unsigned, string, array, object, no_items, item, Members, no_members, member, All-nil, same_Some, alignment, clock_types, environment, event_type, event_types, feature, identifier, size, mapped, timestamp, header, context, event_header, base_of, size_of, integer, natural, word, list, object_at, properties, member_type, behind_done as behind_member, stream_type, stream_types, asks_number, draft_of_type, draft_of_trace, draft_of_root, draft_of, Draft, IsConfig, is_name as is_identifier, integer_made, integer_align, structure, structure_of, listed, extra_members, made, align_of, of_class}
+use Rattle.conf_laws.proofs.Words.{MAX_TEXT_BYTES, Parts, KeepsStreamRules, KeepsRules, IsNoClassAt, HasNotItsRows, IsFlawOf, PassesBy, PassesLimitOf, IsNoDefault, IsNoMemberName, class_words, admits_class, is_class, rows_of, entries_of, content_under, presence_under, words_of, At, OneFlag, class_of, class_rule, orders_there, all_there, resolved_content, is_left_out, configuration_flaws, other_class, any_object, form_of, itself_of, inside, behind, leaf_of, whole_from, fits, place_fits, arrays_fit, is_outermost, ranges_fit, key_fits, configuration_limits, power_fits, key_of, key_by, free_of, names_beside, is_dynamic, natural_in, is_position, own_place, place_of_properties, item_content, shape_of, Flaw, PathPart as Place, key, index, here, Ascends, whole_of, WrongKind, Missing, Unknown, OutOfRange, NameClash, Limit, FaultKind, IsNoObject, name_of, is_reserved, plain_name_of, as_natural, Data, null, boolean, number, unsigned, string, array, object, no_items, item, Members, no_members, member, All-nil, same_Some, alignment, clock_types, environment, event_type, event_types, feature, identifier, size, mapped, timestamp, header, context, event_header, base_of, size_of, integer, natural, word, list, object_at, properties, member_type, behind_done as behind_member, stream_type, stream_types, asks_number, draft_of_type, draft_of_trace, draft_of_root, draft_of, Draft, IsConfig, is_name as is_identifier, integer_made, integer_align, structure, structure_of, listed, extra_members, made, align_of, of_class}
 use Rattle.conf_laws.proofs.Words.places
+use Rattle.conf_laws.proofs.Words.contents
 
 abbrev flaw_at : List Place → FaultKind → Flaw
 flaw_at path kind = record { path = path; kind = kind }
@@ -57,7 +58,12 @@ an_integer = member (codes "alignment") (number (unsigned 8192)) (member (codes 
 
 large_alignment : PassesLimitOf (At places.MemberType) (object an_integer) (flaw_at (key (codes "alignment") ∷ []) Limit)
 unfolding place_of_properties is_position class_of class_words content_under entries_of rows_of as_natural
-large_alignment = PassesLimitOf.in_property (codes "alignment") (number (unsigned 8192)) _ (here Limit) (inl (refl, refl)) refl (PassesLimitOf.too_large (8192, refl, (λ e. omega (arith, e)), (λ q e. omega (arith, e))))
+large_alignment = PassesLimitOf.in_property (codes "alignment") (number (unsigned 8192)) _ (here Limit) (inl (refl, refl)) refl (PassesLimitOf.too_large (8192, refl, omega arith))
+
+-- an alignment of 3 is no power of two, but no limit is passed
+three_is_within : ¬ PassesBy (contents.PowerOfTwo 4096) (number (unsigned 3))
+unfolding as_natural
+three_is_within (n, is, more) = omega (arith, same_Some 3 n is, more)
 
 -- the walk tells of the same, and of nothing else but the trace that is missing
 a_tracer_told : configuration_flaws (object (member (codes "tracer") null no_members)) ≡ flaw_at (key (codes "trace") ∷ []) Missing ∷ flaw_at (key (codes "tracer") ∷ []) Unknown ∷ []

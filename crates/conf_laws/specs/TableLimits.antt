@@ -1,6 +1,6 @@
 -- The limits of a configuration's size that it passes: too many entries of a map or a list, too long a text, too large an
 -- alignment, and static arrays that nest too deep or have too many elements.
-use Rattle.std.specs.Prelude.{◌≡◌, ◌≢◌, ◌<◌, ◌*◌, ℕ, true, List, [], ◌∷◌, length, Some, codes}
+use Rattle.std.specs.Prelude.{◌≡◌, ◌<◌, ◌*◌, ℕ, true, List, [], ◌∷◌, length, Some, codes}
 use Rattle.serde_json.specs.Data.{Data, array, object, Items, Members}
 use Rattle.serde_json.specs.Find.{get_member, get_item, as_str}
 use Rattle.ctf_types.specs.declared.limits.TheConstants.{MAX_ARRAYS, MAX_CONFIG_RANGES, MAX_ELEMENTS, MAX_LABEL_BYTES}
@@ -56,14 +56,14 @@ pub data PassesAt (place : Place) (d : Data) : Type 0 where
 abbrev pub IsLongText : ℕ → Data → Type 0
 IsLongText most d = (s : List ℕ) × (as_str d ≡ Some s) × (most < length s)
 
--- a number that does not divide the largest power of two
-abbrev pub IsNoPowerUpTo : ℕ → Data → Type 0
-IsNoPowerUpTo high d = (n : ℕ) × (as_natural d ≡ Some n) × (n ≢ 0) × ((q : ℕ) → n * q ≢ high)
+-- a number above this
+abbrev pub IsLargeNumber : ℕ → Data → Type 0
+IsLargeNumber high d = (n : ℕ) × (as_natural d ≡ Some n) × (high < n)
 
 abbrev pub PassesBy : Content → Data → Type 0
 PassesBy (contents.Text most) d = IsLongText most d
 PassesBy (contents.WholeOrText low high most) d = IsLongText most d
-PassesBy (contents.PowerOfTwo high) d = IsNoPowerUpTo high d
+PassesBy (contents.PowerOfTwo high) d = IsLargeNumber high d
 PassesBy (contents.At place) d = PassesAt place d
 PassesBy _ d = ⊥
 

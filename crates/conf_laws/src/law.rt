@@ -1,6 +1,6 @@
 //! A resolved configuration whose objects have no flaw says something, which the rules allow where it passes no limit; and what a
 //! walk over its objects tells of is what the table calls a flaw.
-ghost use Rattle.std.specs.Prelude.{◌≡◌, ℕ, pos, true, List, [], Contains, Option, Some, IsSome, Err, codes};
+ghost use Rattle.std.specs.Prelude.{◌≡◌, ◌≤◌, ℕ, pos, true, List, [], Contains, Option, Some, IsSome, Err, codes};
 ghost use Rattle.serde_json.specs.Data.{Data, Members};
 ghost use Rattle.conf_tree.specs.Flaw.{Flaw};
 ghost use Rattle.conf_tree.specs.Order.{Ascends};
@@ -9,7 +9,7 @@ ghost use Rattle.conf_table.specs.declared.place.Place.TheVariants.{Root};
 ghost use Rattle.conf_table.specs.declared.row.Content.TheVariants.{At};
 ghost use Rattle.conf_judge.specs.Flaws.{configuration_flaws};
 ghost use Rattle.conf_judge.specs.Leaves.{is_power_of_two};
-ghost use Rattle.conf_judge.specs.Limits.{configuration_limits, divides};
+ghost use Rattle.conf_judge.specs.Limits.{configuration_limits};
 ghost use Rattle.conf_draft.specs.Integers.{align_of as align_of_integer};
 ghost use Rattle.conf_draft.specs.Lookups.{natural};
 ghost use Rattle.conf_draft.specs.Structures.{align_of as align_of_structure};
@@ -28,11 +28,11 @@ pub fn sound_trees_say_something()
     ensures { (number : Option (List ℕ)) (d : Data) → configuration_flaws d ≡ [] → IsSome (draft_of number d) }
 {}
 
-/// A power of two that passes no limit is read as the very alignment that it is, of an integer and of a structure.
+/// A power of two up to the largest alignment is read as the very alignment that it is, of an integer and of a structure.
 #[tactic(auto, using(crate::proofs::Numbers::integer_kept, crate::proofs::Numbers::structure_kept))]
 pub fn alignments_are_kept()
-    ensures integers { (ms : Members) (n : ℕ) → natural (codes "alignment") ms ≡ Some n → is_power_of_two (pos n) ≡ true → divides LARGEST_ALIGN (Some n) ≡ true → align_of_integer ms ≡ n }
-    ensures structures { (ms : Members) (n : ℕ) → natural (codes "minimum-alignment") ms ≡ Some n → is_power_of_two (pos n) ≡ true → divides LARGEST_ALIGN (Some n) ≡ true → align_of_structure ms ≡ n }
+    ensures integers { (ms : Members) (n : ℕ) → natural (codes "alignment") ms ≡ Some n → is_power_of_two (pos n) ≡ true → n ≤ LARGEST_ALIGN → align_of_integer ms ≡ n }
+    ensures structures { (ms : Members) (n : ℕ) → natural (codes "minimum-alignment") ms ≡ Some n → is_power_of_two (pos n) ≡ true → n ≤ LARGEST_ALIGN → align_of_structure ms ≡ n }
 {}
 
 /// What has no flaw, passes no limit and keeps the rules over the whole says a configuration that the rules allow.

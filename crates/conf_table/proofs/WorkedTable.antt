@@ -231,7 +231,7 @@ event_types : entries_of places.EventTypes ≡ holds keys.Name (Some 1024) (At p
 unfolding entries_of
 event_types = refl
 
-entry : entries_of places.Entry ≡ holds keys.PlainName (Some 1) (At places.Member)
+entry : entries_of places.Entry ≡ holds keys.PlainName None (At places.Member)
 unfolding entries_of
 entry = refl
 
@@ -251,6 +251,6 @@ ranges : entries_of places.Ranges ≡ holds keys.Index None (At places.Range)
 unfolding entries_of
 ranges = refl
 
-range : entries_of places.Range ≡ holds keys.Index (Some 2) (contents.Whole least (pos 18446744073709551615))
+range : entries_of places.Range ≡ holds keys.Index None (contents.Whole least (pos 18446744073709551615))
 unfolding entries_of
 range = refl

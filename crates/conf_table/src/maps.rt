@@ -53,7 +53,7 @@ pub(crate) static EVENT_TYPES: Entries = Entries {
 
 pub(crate) static ENTRY: Entries = Entries {
     keys: Keys::PlainName,
-    most: Some(1),
+    most: None,
     content: Content::At(Place::Member),
 };
 
@@ -83,7 +83,7 @@ pub(crate) static RANGES: Entries = Entries {
 
 pub(crate) static RANGE: Entries = Entries {
     keys: Keys::Index,
-    most: Some(2),
+    most: None,
     content: Content::Whole {
         low: LOWEST,
         high: HIGHEST_UNSIGNED,
