@@ -1,3 +1,4 @@
+mod FaultLines
 mod Flaws
 pub mod OneLineLemmas
 mod Rows

@@ -1,5 +1,5 @@
 -- How texts are shown character by character, and that what is shown stays on one line.
-use Rattle.std.proofs.Common.{◌≡◌, ◌≢◌, ℕ, ◌+◌, ◌/◌, ◌%◌, ◌<◌, ◌&&◌, List, [], ◌∷◌, true, false, if◌then◌else◌, refl, sym, ◌∙◌, ap, arith, append-nil}
+use Rattle.std.proofs.Common.{◌≡◌, ◌≢◌, ℕ, ◌+◌, ◌/◌, ◌%◌, ◌<◌, ◌&&◌, List, [], ◌∷◌, ◌++◌, true, false, if◌then◌else◌, refl, sym, ◌∙◌, ap, arith, append-nil}
 use Rattle.std.specs.Prelude.{◌==◌, codes, nat_lt, not}
 use Rattle.std.specs.Char.{IsScalar, digit_char}
 use Rattle.std.specs.List.{All, flat_map, list_all}
@@ -8,7 +8,7 @@ use Rattle.std.proofs.lemmas.Bool.{and_parts, cond_both}
 use Rattle.std.proofs.lemmas.Bool.Decides.{nat_tests}
 use Rattle.std.proofs.lemmas.List.Elements.{All-append, All-cons, All-head, All-nil, All-tail}
 use Rattle.std.proofs.lemmas.List.Folds.{list_all-append}
-use Rattle.std.proofs.lemmas.Str.{IsUtf8-encode, IsUtf8-from_ascii, chars-IsAscii, chars-append, chars-nil, chars_past_char, scalars-chars}
+use Rattle.std.proofs.lemmas.Str.{IsUtf8-append, IsUtf8-encode, IsUtf8-from_ascii, IsUtf8-nil, chars-IsAscii, chars-append, chars-nil, chars_past_char, scalars-chars}
 use Rattle.std.proofs.lemmas.Str.Ascii.{IsAscii-from_all}
 use Rattle.std.proofs.Math.Utf8.{encode}
 use Rattle.conf_tree.specs.OneLine.{is_shown, IsOneLine, escaped_byte, shown, shown_character, steers}
@@ -28,18 +28,18 @@ shown_plain c n t e = shown_other c n t ∙ ap (λ b. if b then flat_map escaped
 -- ---- one line
 
 -- a byte of ASCII that is no control character
-abbrev IsPlain : ℕ → Type 0
+abbrev pub IsPlain : ℕ → Type 0
 IsPlain b = (b < 128) × (is_shown b ≡ true)
 
 -- a text of which no character steers
-abbrev IsPiece : List ℕ → Type 0
+abbrev pub IsPiece : List ℕ → Type 0
 IsPiece text = IsUtf8 text × (list_all is_shown (chars text) ≡ true)
 
 all_shown : (bs : List ℕ) → All IsPlain bs → list_all is_shown bs ≡ true
 all_shown [] h = refl
 all_shown (b ∷ bs) h = ap (λ x. x && list_all is_shown bs) (All-head IsPlain b bs h).1 ∙ all_shown bs (All-tail IsPlain b bs h)
 
-plain_piece : (bs : List ℕ) → All IsPlain bs → IsPiece bs
+pub plain_piece : (bs : List ℕ) → All IsPlain bs → IsPiece bs
 plain_piece bs h =
     let ascii = IsAscii-from_all bs (λ i d within. (h i d within).0) in
     (IsUtf8-from_ascii bs ascii, ap (list_all is_shown) (chars-IsAscii bs ascii) ∙ all_shown bs h)
@@ -89,15 +89,23 @@ character_piece c s =
     (λ _. cond_both (steers c) _ _ IsPiece (λ e. plain_piece (flat_map escaped_byte (encode c)) (each_escaped_plain (encode c) (bytes_fit c (steers_within c e))))
     (λ e. (IsUtf8-encode c s, ap (list_all is_shown) (chars_encode c s) ∙ ap (λ b. not b && true) e))))
 
-pieces_shown : (cs : List ℕ) → all_scalars cs ≡ true → list_all is_shown (chars (flat_map shown_character cs)) ≡ true
-pieces_shown [] s = ap (list_all is_shown) chars-nil
+pub piece_append : (xs ys : List ℕ) → IsPiece xs → IsPiece ys → IsPiece (xs ++ ys)
+piece_append xs ys p q = (
+  IsUtf8-append xs ys p.0 q.0,
+  ap (list_all is_shown) (chars-append xs ys p.0) ∙ list_all-append is_shown (chars xs) (chars ys) ∙ ap (λ x. x && list_all is_shown (chars ys)) p.1 ∙ q.1,
+)
+
+pub piece_nil : IsPiece []
+piece_nil = (IsUtf8-nil, ap (list_all is_shown) chars-nil)
+
+pieces_shown : (cs : List ℕ) → all_scalars cs ≡ true → IsPiece (flat_map shown_character cs)
+pieces_shown [] s = piece_nil
 pieces_shown (c ∷ cs) s =
-    let both = and_parts _ _ s in
-    let piece = character_piece c both.0 in
-    ap (list_all is_shown) (chars-append (shown_character c) (flat_map shown_character cs) piece.0)
-    ∙ list_all-append is_shown (chars (shown_character c)) (chars (flat_map shown_character cs))
-    ∙ ap (λ x. x && list_all is_shown (chars (flat_map shown_character cs))) piece.1 ∙ pieces_shown cs both.1
+    let both = and_parts _ _ s in piece_append (shown_character c) (flat_map shown_character cs) (character_piece c both.0) (pieces_shown cs both.1)
+
+pub piece_shown : (text : List ℕ) → IsUtf8 text → IsPiece (shown text)
+piece_shown text u = pieces_shown (chars text) (scalars-chars text u)
 
 -- what is shown stays on one line
 pub one_line_shown : (text : List ℕ) → IsUtf8 text → IsOneLine (shown text)
-one_line_shown text u = pieces_shown (chars text) (scalars-chars text u)
+one_line_shown text u = (piece_shown text u).1
