@@ -16,6 +16,9 @@ use serde_json::{Map, Value};
 use std::alloc::{AllocError, Global};
 use std::collections::BTreeMap;
 
+/// How often an alias comes up without an outcome: for the first alias that it waits for, for all, and for its turn.
+const MOST_VISITS: usize = 3;
+
 /// The aliases whose turns are to come.
 #[derive(Drop)]
 struct Turns {
@@ -38,6 +41,17 @@ impl Turns {
         })
     }
 
+    /// How often the alias came up without an outcome.
+    fn visits_of(&self, name: &str) -> usize {
+        self.visits.get(name).copied().unwrap_or(0)
+    }
+
+    /// Whether nothing is left to do for the alias: it has its outcome, or had its turn and leads into a circle. One
+    /// value may name it any number of times, so this is asked before its body is walked over.
+    fn is_through(&self, name: &str, outcomes: &AliasOutcomes) -> bool {
+        outcomes.has_outcome(name) || self.visits_of(name) >= MOST_VISITS
+    }
+
     /// Whether it is the turn of the alias that came up. Where others without an outcome are named in it, they come up
     /// first, and then it again: at first the first of them, since one name often leads to all others, then all. An
     /// alias that waits still when it comes up again leads into a circle, and has its turn once.
@@ -49,15 +63,13 @@ impl Turns {
         aliases: &Map<String, Value>,
         outcomes: &AliasOutcomes,
     ) -> Result<bool, AllocError> {
-        if outcomes.has_outcome(name.as_str()) {
-            return Ok(false);
-        }
-        let visits = self.visits.get(name.as_str()).copied().unwrap_or(0);
+        let visits = self.visits_of(name.as_str());
         drop(self.visits.insert(name.clone()?, visits.saturating_add(1))?);
-        if visits > 1 {
-            return Ok(visits == 2);
-        }
-        let most = if visits == 0 { 1 } else { usize::MAX };
+        let most = match visits {
+            0 => 1,
+            1 => usize::MAX,
+            _ => return Ok(true),
+        };
         let mut waiting = Vec::new(alloc);
         let asked = Asked::IsOver { aliases, outcomes };
         push_failing(value, Place::FieldType, asked, most, &mut waiting)?;
@@ -177,6 +189,9 @@ fn take_turn(
     ensures left { OnOk result ((al : Members) → TurnsLeave al (outcomes_of outcomes.old) (members_view aliases.old.entries) → TurnsLeave al (outcomes_of outcomes.new) (members_view aliases.new.entries)) }
     ensures memory { IfErr result IsMemory }
 {
+    if turns.is_through(name.as_str(), outcomes) {
+        return Ok(());
+    }
     let Some(value) = property(aliases, name.as_str()) else {
         return Ok(());
     };
