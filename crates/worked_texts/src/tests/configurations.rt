@@ -215,6 +215,7 @@ fn ends_soon_on_many_aliases(rt: HostRuntime) -> Result<(), Fail> {
 static LONG_CHAINS: &[Table] = &[
     (RESOLVED, places::ALIASES_AND_PAYLOAD, heirs::LONG_CHAINS),
     (RESOLVED, places::ALIASES_AND_PAYLOAD, heirs::GROWING),
+    (RESOLVED, places::ALIASES_AND_PAYLOAD, heirs::OFTEN_NAMED),
 ];
 
 #[test]

@@ -126,3 +126,9 @@ pub const GROWING: &str = r#"
 <a chain that grows> PAYLOAD "g0" -> <aliases>/g40: Limit
 <a chain that grows from its end> PAYLOAD "h99" -> <aliases>/h59: Limit
 "#;
+
+/// An alias of many members that leads into a circle, or is refused, and another one that names it as often.
+pub const OFTEN_NAMED: &str = r#"
+"big":{"members":[<10,000 bytes>,{"z":"big"}]},"heir":{"members":[<10,000 heirs>]} PAYLOAD {} -> <aliases>/big: InheritCycle
+"base":{"class":"uint","size":8},"big":{"members":[<10,000 bytes>,{"z":"nope"}]},"heir":{"members":[{"a":"base"},<10,000 heirs>]} PAYLOAD {} -> <aliases>/big/members/10000/z: NoSuchAlias
+"#;
