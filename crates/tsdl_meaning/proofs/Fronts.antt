@@ -10,20 +10,11 @@ front_more : {A : Type 0} (front : List A) (y : A) (o : Option (List A)) → wit
 front_more front y None = refl
 front_more front y (Some ys) = ap (λ (xs : List _). Some xs) (append_assoc front (y ∷ []) ys)
 
-each_more : {A B : Type 0} (f : A → Option B) (front : List B) (x : A) (xs : List A) (y : B) → f x ≡ Some y → with_front (front ++ y ∷ []) (each f xs) ≡ with_front front (each f (x ∷ xs))
+pub each_more : {A B : Type 0} (f : A → Option B) (front : List B) (x : A) (xs : List A) (y : B) → f x ≡ Some y → with_front (front ++ y ∷ []) (each f xs) ≡ with_front front (each f (x ∷ xs))
 each_more f front x xs y e = rw e (front_more front y (each f xs))
 
-pub whole : {A : Type 0} (xs : List A) (n : ℕ) → n ≡ length xs → take n xs ≡ xs
+whole : {A : Type 0} (xs : List A) (n : ℕ) → n ≡ length xs → take n xs ≡ xs
 whole xs n e = ap (λ (k : ℕ). take k xs) e ∙ take-length xs
-
--- the first item of a list is made, and the others are left
-pub made_first : {A B : Type 0} (f : A → Option B) (front new : List B) (rest : List A) (x : A) (y : B) (all : Option (List B)) (n : ℕ)
-    → 1 ≤ length rest → x ≡ get_or rest 0 x → f x ≡ Some y → new ≡ front ++ y ∷ [] → n ≡ length rest - 1 → with_front front (each f rest) ≡ all
-    → with_front new (each f (take n (drop 1 rest))) ≡ all
-made_first f front new [] x y all n len is makes adds count h = absurd (omega arith)
-made_first f front new (z ∷ rest) x y all n len is makes adds count h =
-    ap (λ (ns : List _). with_front ns (each f (take n rest))) adds ∙ ap (λ (zs : List _). with_front (front ++ y ∷ []) (each f zs)) (whole rest n (omega arith))
-    ∙ each_more f front z rest y (ap f (sym is) ∙ makes) ∙ h
 
 -- the first item of a list has one part, of which something is made
 pub made_part : {A P B : Type 0} (part : A → List P) (f : P → Option B) (front new : List B) (rest : List A) (x : A) (p : P) (y : B) (all : Option (List B)) (n : ℕ)

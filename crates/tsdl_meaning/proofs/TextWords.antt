@@ -9,7 +9,7 @@ unfoldable pub use Rattle.tsdl_grammar.specs.Denotes.{streams_meaning, text_meta
 unfoldable pub use Rattle.tsdl_grammar.specs.IntegerMeaning.{base_value, clock_value, int_meaning, order_value}
 unfoldable pub use Rattle.tsdl_grammar.specs.MemberMeaning.{bracketed, entry_meaning, enum_meaning, kind_meaning, member_meaning, text_meaning}
 unfoldable pub use Rattle.tsdl_grammar.specs.StructureMeaning.{members_meaning, struct_meaning, struct_type}
-pub use Rattle.std.proofs.lemmas.List.{append-nil, length-map, map-append, map-id, reverse-append, take_all, take_more}
+pub use Rattle.std.proofs.lemmas.List.{append-nil, length-map, map-append, map-id, reverse-append, reverse-reverse, take_all, take_more}
 pub use Rattle.std.proofs.lemmas.Bool.{and_from, cases_Bool, cases_lt, cond_both, eq-eqb, eqb-true, false_from_ne_true, false≢true, le-leb, le-ltb, leb-true, lt-ltb, ltb-true, not-false, not-true, not_from_false, or_from, or_left, or_parts, or_right}
 pub use Rattle.tsdl_grammar.proofs.Runs.{and_true}
 pub use Rattle.std.proofs.lemmas.Slice.Eq.{bytes_eq-Decides}

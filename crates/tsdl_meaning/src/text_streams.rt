@@ -9,7 +9,7 @@ use crate::numbered::by_number;
 use crate::room::with_room;
 use crate::stream::{event_meaning, stream_meaning};
 use crate::value::Meant;
-use ctf_types::{Duplicate, Event, ListOf, Stream};
+use ctf_types::{Event, ListOf, Stream};
 use std::alloc::{AllocError, Global};
 use std::collections::{BTreeMap, BTreeSet};
 use tsdl_grammar::Block;
@@ -31,7 +31,7 @@ pub(crate) fn streams_meaning(
     let events = meant!(events_found(alloc, known, blocks)?);
     holds!(have_streams(alloc, streams.as_slice(), events.as_slice())?);
     let groups = groups_of(alloc, events)?;
-    streams_with(alloc, groups, streams.as_slice())
+    streams_with(alloc, groups, streams)
 }
 
 /// The streams of the stream blocks, as they stand.
@@ -133,35 +133,30 @@ fn add_event(alloc: Global, groups: &mut Groups, event: (u64, Event)) -> Result<
     Ok(())
 }
 
-/// Each stream with the events of its group.
-fn streams_with(alloc: Global, groups: Groups, streams: &[Stream]) -> Meant<ListOf<Stream>>
-    requires { NumbersRise (λ s. s.id) streams.now }
-    ensures { IfOk result (λ ss. ss ≡ each (with_group groups) streams.now) }
+/// Each stream with the events of its group. The streams that are left give up the room of each that is made.
+fn streams_with(alloc: Global, groups: Groups, streams: ListOf<Stream>) -> Meant<ListOf<Stream>>
+    requires { NumbersRise (λ s. s.id) streams }
+    ensures { IfOk result (λ ss. ss ≡ each (with_group groups) streams) }
 {
     let mut made = with_room(alloc, streams.len())?;
-    let mut left = groups;
-    let mut rest = streams;
-    while let [stream, others @ ..] = rest {
-        made.push(meant!(with_group(alloc, &mut left, stream)?))?;
-        rest = others;
+    let mut left_groups = groups;
+    let mut left = streams.into_vec();
+    left.reverse();
+    while let Some(stream) = left.pop() {
+        made.push(meant!(with_group(alloc, &mut left_groups, stream)?))?;
+        left.shrink_to_fit();
     }
     Ok(Some(made))
 }
 
 /// A stream with the events of its group, by number, which are taken out of the groups.
-fn with_group(alloc: Global, groups: &mut Groups, stream: &Stream) -> Meant<Stream>
-    ensures made { IfOk result (λ s. s ≡ with_group groups.old stream.now) }
-    ensures others { OthersStay stream.now.id groups.old groups.new }
+fn with_group(alloc: Global, groups: &mut Groups, mut stream: Stream) -> Meant<Stream>
+    ensures made { IfOk result (λ s. s ≡ with_group groups.old stream) }
+    ensures others { OthersStay stream.id groups.old groups.new }
 {
     let own = take_group(alloc, groups, stream.id);
-    let events = meant!(by_number(alloc, own)?);
-    Ok(Some(Stream {
-        id: stream.id,
-        context: stream.context.copy(alloc)?,
-        event_header: stream.event_header.copy(alloc)?,
-        common: stream.common.copy(alloc)?,
-        events,
-    }))
+    stream.events = meant!(by_number(alloc, own)?);
+    Ok(Some(stream))
 }
 
 /// The events of the stream of this number, which are taken out of the groups.

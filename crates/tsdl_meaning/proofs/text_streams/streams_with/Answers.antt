@@ -1,20 +1,15 @@
-use Rattle.std.proofs.Common.{refl, sym, ap, ◌∙◌}
-use Rattle.tsdl_meaning.proofs.TextWords.{with_group, with_own}
-use Rattle.tsdl_meaning.proofs.Fronts.{made_first}
-use Rattle.tsdl_meaning.proofs.NumberOrder.{as_at_first, none_in_front, own_group, others_left}
+use Rattle.std.proofs.Common.{sym, ◌∙◌}
+use Rattle.tsdl_meaning.proofs.TextWords.{each, with_group}
+use Rattle.tsdl_meaning.proofs.NumberOrder.{all_left, one_more_stream}
 use Rattle.tsdl_meaning.proofs.text_streams.streams_with.Goals as goal
 
-pub loop-rest-init : goal.loop-rest-init
-loop-rest-init c = (none_in_front c.in_ok-made.made _ c.in_ok-made.ensures, c.requires, as_at_first c.args.groups c.args.streams.now)
+pub loop-stream-init : goal.loop-stream-init
+loop-stream-init c =
+    all_left c.args.groups c.args.streams c.into_vec-left.result.items c.reverse.new.self.items c.in_ok-made.made c.into_vec-left.ensures c.reverse.ensures.items c.in_ok-made.ensures c.requires
 
-pub loop-rest-preserved : goal.loop-rest-preserved
-loop-rest-preserved c =
-    let i = c.loop-rest.invariant in
-    let own = own_group c.args.groups c.loop-rest.left c.loop-rest.rest.now c.stream-item.result c.in-len1-up.len_at_least c.stream-item.is i.2 in
-    let made = ap (λ es. with_own es c.stream-item.result) (sym own) ∙ sym c.in_ok-meaning.ensures.made ∙ c.in-Some.is in
-    let others = others_left c.args.groups c.loop-rest.left c.with_group.new.groups c.loop-rest.rest.now c.stream-item.result _ c.in-len1-up.len_at_least c.stream-item.is refl i.1 c.with_group.ensures.others i.2 in (
-      made_first (with_group c.args.groups) c.loop-rest.made c.push.new.self c.loop-rest.rest.now c.stream-item.result c.in-Some.meaning _ _ c.in-len1-up.len_at_least
-          c.stream-item.is made c.in_ok-push.ensures.ok refl i.0,
-      others.0,
-      others.1,
-    )
+pub loop-stream-preserved : goal.loop-stream-preserved
+loop-stream-preserved c =
+    rw c.shrink_to_fit.ensures.items
+    (one_more_stream c.args.groups c.loop-stream.left_groups c.with_group.new.groups c.loop-stream.left.items c.pop.new.self.items c.in-Some.stream c.in-Some-2.meaning c.loop-stream.made c.push.new.self
+    (each (with_group c.args.groups) c.args.streams) c.in-Some.ensures.items (sym c.in-Some-2.is ∙ c.in_ok-meaning.ensures.made) c.with_group.ensures.others c.in_ok-push.ensures.ok
+    c.loop-stream.invariant)
