@@ -90,7 +90,7 @@ power_divides n power most =
     let (k, below, is) = divisors_of_pow 63 n (grind (arith, nat_tests, power)) (grind (arith, nat_tests, power)) in
     elim (cases_lt k 13) [
       | inl small ↦ ap is_alignment is ∙ agree_below_at (λ j. is_alignment (2 ^ j)) (λ j. true) 13 k refl small
-      | inr large ↦ let above : 2 ^ 13 ≤ 2 ^ k = pow_mono large in omega (arith, above, most, is)
+      | inr large ↦ absurd (let above : 8192 ≤ 2 ^ k = pow_mono large in let low : n ≤ 4096 = most in omega (arith, above, low, is))
     ]
 
 module _ (ms : Members) (n : ℕ) (power : is_power_of_two (pos n) ≡ true) (most : n ≤ LARGEST_ALIGN) where
