@@ -125,6 +125,11 @@ size_of_others _ a b c d e = refl
 pub adds_same : {T E : Type 0} (r : Result T E) (Is : List ℕ → Type 0) (was now words : List ℕ) → Is words → OnOk r (now ≡ was ++ words) → OnOk r (Adds Is was now)
 adds_same r Is was now words is h = on_ok_weaker r (λ (e : now ≡ was ++ words). (words, is, e)) h
 
+pub hint_said : {T E : Type 0} (r : Result T E) (b : Bool) (text was now : List ℕ) → b ≡ true → OnOk r (now ≡ was ++ text)
+    → OnOk r (Adds (λ hint. hint ≡ (if b then text else [])) was now)
+hint_said r true text was now e h = adds_same r (λ hint. hint ≡ text) was now text refl h
+hint_said r false text was now e h = absurd (cc)
+
 pub in_word : (text : List ℕ) (value : Option Data) (content : Option Content) (choice : Words) (position : Place) (words : List (List ℕ)) (was now : List ℕ) → content ≡ Some (contents.Word choice) → words ≡ words_of choice
     → Adds (IsChoice text value words) was now → Adds (IsInRange text value content position) was now
 unfolding IsInRange

@@ -6,7 +6,7 @@ use Rattle.conf_tree.specs.declared.step.Step.{Step}
 use Rattle.conf_tree.specs.declared.step.Step.TheVariants.{Key, Index}
 use Rattle.conf_tree.specs.declared.fault.ConfFault.{ConfFault}
 use Rattle.conf_tree.specs.declared.fault_kind.FaultKind.{FaultKind}
-use Rattle.conf_tree.specs.declared.fault_kind.FaultKind.TheVariants.{NotJson, TooDeep, Unknown, InheritCycle, BadName, ReservedName, NameClash, ZeroSizeRecord, NoUuid, TwoOrders, OutOfMemory}
+use Rattle.conf_tree.specs.declared.fault_kind.FaultKind.TheVariants.{NotJson, TooDeep, Unknown, InheritCycle, BadName, ReservedName, NameClash, ZeroSizeRecord, TwoOrders, OutOfMemory}
 use Rattle.conf_tree.specs.declared.limits.TheConstants.{MAX_LEVELS}
 use Rattle.conf_fault.specs.declared.line_column.LineColumn.{LineColumn}
 use Rattle.conf_fault.specs.LineColumn.{IsPlaceAt, IsPlaceIn}
@@ -76,13 +76,12 @@ unfoldable pub same_words : FaultKind → Option (List ℕ)
 same_words InheritCycle = Some (codes "a chain of aliases that ends: this one leads into a circle")
 same_words ReservedName = Some (codes "a name that the metadata language does not use itself")
 same_words ZeroSizeRecord = Some (codes "an integer, an enumeration or a string in its contexts or its payload")
-same_words NoUuid = Some (codes "a UUID of the trace type, or with `auto` one from the caller (--uuid of `metadata` and `trace`)")
 same_words TwoOrders = Some (codes "only one of `trace-byte-order` and `native-byte-order`")
 same_words _ = None
 
 -- of the kinds that are the same everywhere
 unfoldable pub fixed_words : FaultKind → Option (List ℕ)
-fixed_words TooDeep = Some (codes "at most " ++ (decimal MAX_LEVELS ++ codes " levels of objects and lists"))
+fixed_words TooDeep = Some (codes "at most " ++ (decimal MAX_LEVELS ++ codes " levels of objects and lists with what is inherited"))
 fixed_words kind = same_words kind
 
 -- of the other kinds what is told of them, and behind it a hint or none

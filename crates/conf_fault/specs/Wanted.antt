@@ -68,6 +68,9 @@ named_text kinds.NoClock name content = if bytes_eq name (codes "$default-clock-
 named_text kinds.TimestampSize name content = Some (if bytes_eq name (codes "timestamp-field-type")
     then codes "a field of 8 to 64 bits, fewer than 64 only beside the packet's beginning timestamp, or the feature off"
     else codes "a field of 64 bits, or the feature off")
+named_text kinds.NoUuid name content = Some (if bytes_eq name (codes "uuid-field-type")
+    then codes "a UUID of the trace type, with `auto` one from the caller (--uuid of `metadata` and `trace`), or the feature off"
+    else codes "a UUID of the trace type, or with `auto` one from the caller (--uuid of `metadata` and `trace`)")
 named_text kinds.OutOfRange name content = if bytes_eq name (codes "$is-default") then Some (codes "true at one data stream type at most") else range_text name content
 named_text kinds.NameClash name content = Some (codes "a name that nothing else in this structure has")
 named_text kinds.NotWhole name content = if can_be_whole content then None else Some (codes "a whole number of 64 bits, without fraction or exponent")
@@ -225,10 +228,15 @@ IsLikeHint name hint = (names : List (List ℕ)) × (other : List ℕ) × IsNear
 abbrev pub IsMemberHint : List ℕ → List ℕ → Type 0
 IsMemberHint name hint = (bytes_eq name (codes "field-type") ≡ true) × (hint ≡ codes "; a member's field type stands under `field-type`")
 
--- of a property that is missing, perhaps: where it would be outermost, where a member is its own field type, and where a property has a name like it
+-- where a configuration includes files
+abbrev pub include_words : List ℕ
+include_words = codes "; tools/yaml_to_json puts in what `$include` names"
+
+-- of a property that is missing, perhaps: where it would be outermost, where a file is included that may have it, where a member is its own field type,
+-- and where a property has a name like it
 abbrev pub IsMissingHint : List Step → List ℕ → List ℕ → Type 0
 IsMissingHint path name hint = (hint ≡ []) ⊎ (((length path ≡ 1) × (hint ≡ codes "; this looks like a configuration of barectf 2, and ctftrace reads those of barectf 3"))
-    ⊎ (IsMemberHint name hint ⊎ IsLikeHint name hint))
+    ⊎ ((hint ≡ include_words) ⊎ (IsMemberHint name hint ⊎ IsLikeHint name hint)))
 
 -- of a number that is no whole one, perhaps: how it would be written
 abbrev pub IsWholeHint : List ℕ → Type 0
@@ -260,7 +268,7 @@ IsHint kinds.NameClash path hint = IsNameHint (end_name path) hint
 IsHint kinds.OutOfRange path hint = IsRangeHint hint
 IsHint kinds.NotWhole path hint = IsWholeHint hint
 IsHint kinds.NoSuchAlias path hint = IsQuoteHint hint
-IsHint kinds.Unknown path hint = hint ≡ (if bytes_eq (end_name path) (codes "$include") then codes "; tools/yaml_to_json puts in what `$include` names" else [])
+IsHint kinds.Unknown path hint = hint ≡ (if bytes_eq (end_name path) (codes "$include") then include_words else [])
 IsHint kinds.BadName path hint = hint ≡ (if list_any is_hyphen (end_name path) then codes "; a hyphen stands in no name, `_` does" else [])
 IsHint _ path hint = hint ≡ []
 

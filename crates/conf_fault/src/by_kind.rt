@@ -100,7 +100,9 @@ fn fixed_words(alloc: Global, kind: FaultKind) -> Result<Option<String>, AllocEr
     ensures { IfOk result (λ words. option_map string_bytes words ≡ words_of_kind kind) }
 {
     if let FaultKind::TooDeep = kind {
-        let levels = format!(in alloc; "at most {MAX_LEVELS} levels of objects and lists")?;
+        let levels = format!(in alloc;
+            "at most {MAX_LEVELS} levels of objects and lists with what is inherited"
+        )?;
         return Ok(Some(levels));
     }
     match same_words(kind) {
@@ -122,9 +124,6 @@ fn same_words(kind: FaultKind) -> Option<&'static str>
         FaultKind::ZeroSizeRecord => Some(
             "an integer, an enumeration or a string in its contexts or its payload",
         ),
-        FaultKind::NoUuid => Some(
-            "a UUID of the trace type, or with `auto` one from the caller (--uuid of `metadata` and `trace`)",
-        ),
         FaultKind::TwoOrders => Some("only one of `trace-byte-order` and `native-byte-order`"),
         FaultKind::NotJson
         | FaultKind::TooDeep
@@ -140,6 +139,7 @@ fn same_words(kind: FaultKind) -> Option<&'static str>
         | FaultKind::NoClock
         | FaultKind::Limit
         | FaultKind::TimestampSize
+        | FaultKind::NoUuid
         | FaultKind::OutOfMemory => None,
     }
 }
@@ -163,6 +163,12 @@ fn words_here(kind: FaultKind, name: &str, content: Option<Content>) -> Option<&
             "a field of 8 to 64 bits, fewer than 64 only beside the packet's beginning timestamp, or the feature off",
         ),
         FaultKind::TimestampSize => Some("a field of 64 bits, or the feature off"),
+        FaultKind::NoUuid if name == "uuid-field-type" => Some(
+            "a UUID of the trace type, with `auto` one from the caller (--uuid of `metadata` and `trace`), or the feature off",
+        ),
+        FaultKind::NoUuid => Some(
+            "a UUID of the trace type, or with `auto` one from the caller (--uuid of `metadata` and `trace`)",
+        ),
         FaultKind::OutOfRange if name == "$is-default" => Some(
             "true at one data stream type at most",
         ),

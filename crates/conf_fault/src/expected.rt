@@ -192,11 +192,14 @@ fn described(place: Place) -> &'static str
         Place::MemberType => "a field type that is no structure, or the name of an alias of one",
         Place::ElementType | Place::DynamicElementType =>
             "a field type that is neither a structure nor a dynamic array, or the name of an alias of one",
-        Place::Feature => "true, false, or an unsigned integer field type",
-        Place::SizeFeature => "true, or an unsigned integer field type: a packet has its sizes",
-        Place::MagicFeature => "true, false, or an unsigned integer field type of 32 bits",
+        Place::Feature =>
+            "true, false, an unsigned integer field type, or the name of an alias of one",
+        Place::SizeFeature =>
+            "true, an unsigned integer field type, or the name of an alias of one: a packet has its sizes",
+        Place::MagicFeature =>
+            "true, false, an unsigned integer field type of 32 bits, or the name of an alias of one",
         Place::IdentifierFeature =>
-            "true, false, or a static array field type of 16 unsigned integers of 8 bits with alignment 8",
+            "true, false, a static array field type of 16 unsigned integers of 8 bits with alignment 8, or the name of an alias of one",
         Place::Entry => "an object of one property, the member's name",
         Place::Member => "the name of an alias, or an object with `field-type`",
         Place::Range => "a whole number, or a list of the lowest and the highest of a range",

@@ -1,8 +1,8 @@
 //! What helps to set a fault right, behind what was expected.
 
-ghost use Rattle.std.specs.Prelude.{◌≡◌, OnOk, string_bytes};
+ghost use Rattle.std.specs.Prelude.{◌≡◌, ◌++◌, OnOk, string_bytes};
 ghost use Rattle.conf_fault.specs.Explanation.{Adds};
-ghost use Rattle.conf_fault.specs.Wanted.{IsClashHint, IsHint, IsMissingHint, IsNameHint, IsQuoteHint, IsRangeHint, IsWholeHint, end_name as name_of_end};
+ghost use Rattle.conf_fault.specs.Wanted.{IsClashHint, IsHint, IsMissingHint, IsNameHint, IsQuoteHint, IsRangeHint, IsWholeHint, end_name as name_of_end, include_words};
 
 use crate::by_kind::is_whole;
 use crate::expected::nearest;
@@ -34,7 +34,7 @@ pub(crate) fn push_hint(
             if name != "$include" {
                 return Ok(());
             }
-            said.push_str("; tools/yaml_to_json puts in what `$include` names")
+            push_include_hint(said)
         }
         FaultKind::BadName => {
             if !name.as_bytes().contains(&b'-') {
@@ -64,6 +64,9 @@ fn push_missing_hint(
         .iter()
         .map(|name| name.as_str())
         .collect(found.source.alloc)?;
+    if words.iter().any(|word| *word == "$include") {
+        return push_include_hint(said);
+    }
     if name == "field-type" && words.iter().any(|word| *word == "class") {
         return said.push_str("; a member's field type stands under `field-type`");
     }
@@ -73,6 +76,12 @@ fn push_missing_hint(
     said.push_str("; there is `")?;
     push_cut(said, word)?;
     said.push_str("`")
+}
+
+fn push_include_hint(said: &mut String) -> Result<(), AllocError>
+    ensures { OnOk result (string_bytes said.new ≡ string_bytes said.old ++ include_words) }
+{
+    said.push_str("; tools/yaml_to_json puts in what `$include` names")
 }
 
 /// The properties of an object that it cannot have.
