@@ -220,23 +220,32 @@ IsToldOfKind text _ path end said = said ≡ expected_words end.content end.posi
 abbrev pub is_hyphen : ℕ → Bool
 is_hyphen b = b == 45
 
+-- a property that there is
+abbrev pub there_words : List ℕ → List ℕ
+there_words name = codes "; there is `" ++ cut name ++ codes "`"
+
 -- a property with a name that is like another, of which at least half is alike in it; which names the object has that it cannot have is not said
 abbrev pub IsLikeHint : List ℕ → List ℕ → Type 0
-IsLikeHint name hint = (names : List (List ℕ)) × (other : List ℕ) × IsNearestOf ((length name - 1) / 2) name names (Some other) × (hint ≡ codes "; there is `" ++ cut other ++ codes "`")
+IsLikeHint name hint = (names : List (List ℕ)) × (other : List ℕ) × IsNearestOf ((length name - 1) / 2) name names (Some other) × (hint ≡ there_words other)
 
 -- of a member that has the properties of a field type itself
 abbrev pub IsMemberHint : List ℕ → List ℕ → Type 0
 IsMemberHint name hint = (bytes_eq name (codes "field-type") ≡ true) × (hint ≡ codes "; a member's field type stands under `field-type`")
+
+-- of a class, perhaps: a property with a name like `$inherit`, of which more than half is alike in it; which names the object has is not said
+abbrev pub IsInheritHint : List ℕ → List ℕ → Type 0
+IsInheritHint name hint = (hint ≡ []) ⊎ ((names : List (List ℕ)) × (other : List ℕ) × (bytes_eq name (codes "class") ≡ true)
+    × IsNearestOf 4 (codes "$inherit") names (Some other) × (hint ≡ there_words other ++ codes ", but a base stands under `$inherit`"))
 
 -- where a configuration includes files
 abbrev pub include_words : List ℕ
 include_words = codes "; tools/yaml_to_json puts in what `$include` names"
 
 -- of a property that is missing, perhaps: where it would be outermost, where a file is included that may have it, where a member is its own field type,
--- and where a property has a name like it
+-- and where a property has a name like it, or like that of the base from which a class may come
 abbrev pub IsMissingHint : List Step → List ℕ → List ℕ → Type 0
 IsMissingHint path name hint = (hint ≡ []) ⊎ (((length path ≡ 1) × (hint ≡ codes "; this looks like a configuration of barectf 2, and ctftrace reads those of barectf 3"))
-    ⊎ ((hint ≡ include_words) ⊎ (IsMemberHint name hint ⊎ IsLikeHint name hint)))
+    ⊎ ((hint ≡ include_words) ⊎ (IsMemberHint name hint ⊎ (IsLikeHint name hint ⊎ IsInheritHint name hint))))
 
 -- of a number that is no whole one, perhaps: how it would be written
 abbrev pub IsWholeHint : List ℕ → Type 0

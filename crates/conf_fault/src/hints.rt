@@ -2,7 +2,7 @@
 
 ghost use Rattle.std.specs.Prelude.{◌≡◌, ◌++◌, OnOk, string_bytes};
 ghost use Rattle.conf_fault.specs.Explanation.{Adds};
-ghost use Rattle.conf_fault.specs.Wanted.{IsClashHint, IsHint, IsMissingHint, IsNameHint, IsQuoteHint, IsRangeHint, IsWholeHint, end_name as name_of_end, include_words};
+ghost use Rattle.conf_fault.specs.Wanted.{IsClashHint, IsHint, IsInheritHint, IsMissingHint, IsNameHint, IsQuoteHint, IsRangeHint, IsWholeHint, end_name as name_of_end, include_words, there_words};
 
 use crate::by_kind::is_whole;
 use crate::expected::nearest;
@@ -71,11 +71,32 @@ fn push_missing_hint(
         return said.push_str("; a member's field type stands under `field-type`");
     }
     let Some(word) = nearest(name, words.as_slice(), name.len().saturating_sub(1) / 2) else {
+        return push_inherit_hint(said, name, words.as_slice());
+    };
+    push_there(said, word)
+}
+
+/// Adds that there is a property of this name.
+fn push_there(said: &mut String, name: &str) -> Result<(), AllocError>
+    ensures { OnOk result (string_bytes said.new ≡ string_bytes said.old ++ there_words name.now) }
+{
+    said.push_str("; there is `")?;
+    push_cut(said, name)?;
+    said.push_str("`")
+}
+
+/// Adds a name like `$inherit` where a class is missing, which a base would have.
+fn push_inherit_hint(said: &mut String, name: &str, words: &[&str]) -> Result<(), AllocError>
+    ensures { OnOk result (Adds (IsInheritHint name.now) (string_bytes said.old) (string_bytes said.new)) }
+{
+    if name != "class" {
+        return Ok(());
+    }
+    let Some(word) = nearest("$inherit", words, "$inherit".len() / 2) else {
         return Ok(());
     };
-    said.push_str("; there is `")?;
-    push_cut(said, word)?;
-    said.push_str("`")
+    push_there(said, word)?;
+    said.push_str(", but a base stands under `$inherit`")
 }
 
 fn push_include_hint(said: &mut String) -> Result<(), AllocError>
