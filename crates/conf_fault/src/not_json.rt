@@ -82,14 +82,24 @@ fn first_character(bytes: &[u8]) -> Option<char>
     None
 }
 
-/// Whether a text begins, behind empty lines, with a comment, with `---` or `%YAML`, with a tag, or with a name and a colon, as `trace:` or `"trace":`.
+/// Whether a text begins, behind a byte order mark and empty lines, with a comment, with `---` or `%YAML`, with a tag, with an item of a list, as `- a`,
+/// or with a name and a colon, as `trace:` or `"trace" :`.
 fn looks_like_yaml(text: &[u8]) -> bool {
-    let text = text.trim_ascii_start();
+    let text = without_mark(text).trim_ascii_start();
     text.starts_with(b"#".as_slice())
+        || text.starts_with(b"- ".as_slice())
         || text.starts_with(b"---".as_slice())
         || text.starts_with(b"%YAML".as_slice())
         || text.starts_with(b"!".as_slice())
         || begins_with_key(text)
+}
+
+/// A text behind the byte order mark with which it begins, if it does.
+fn without_mark(text: &[u8]) -> &[u8] {
+    match first_character(text) {
+        Some('\u{feff}') => text.get(3..).unwrap_or(&[]),
+        _ => text,
+    }
 }
 
 /// Whether a text begins with a name, in quotes of one kind or in none, and a colon.
@@ -99,7 +109,10 @@ fn begins_with_key(text: &[u8]) -> bool {
     let name = &text[start..];
     let length = name.iter().take_while(|byte| is_of_a_name(**byte)).count();
     let end = length.saturating_add(start);
-    length > 0 && (quote.is_none() || name.get(length) == quote) && name.get(end) == Some(&b':')
+    let behind = name.get(end..).unwrap_or(&[]);
+    length > 0
+        && (quote.is_none() || name.get(length) == quote)
+        && behind.iter().find(|byte| **byte != b' ') == Some(&b':')
 }
 
 fn is_of_a_name(byte: u8) -> bool {
