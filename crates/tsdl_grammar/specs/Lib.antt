@@ -14,6 +14,7 @@ pub mod MemberMeaning
 pub mod StructureMeaning
 pub mod BlockMeaning
 pub mod Denotes
+pub mod Halts
 pub mod Orders
 pub mod FieldOrders
 pub mod Laws
