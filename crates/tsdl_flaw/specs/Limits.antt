@@ -56,14 +56,15 @@ depth [] = 0
 depth (brackets.Count n ∷ bs) = 1 + depth bs
 depth (brackets.Member w ∷ bs) = depth bs
 
-abbrev pub elements_of : Option ℕ → ℕ
-elements_of None = 1
-elements_of (Some n) = max n 1
+-- by how much a length multiplies the elements: an array without any counts as one element
+abbrev pub factor : Option ℕ → ℕ
+factor None = 1
+factor (Some n) = max n 1
 
 -- how many elements an array of these lengths has, a length of 0 counted as 1
 abbrev pub elements : List Bracket → ℕ
 elements [] = 1
-elements (brackets.Count n ∷ bs) = elements_of (natural n) * elements bs
+elements (brackets.Count n ∷ bs) = factor (natural n) * elements bs
 elements (brackets.Member w ∷ bs) = elements bs
 
 -- the length in a bracket that is one too many, one that makes too many elements, or one of a sequence's elements without bits

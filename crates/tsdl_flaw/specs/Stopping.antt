@@ -14,7 +14,8 @@ use Rattle.tsdl_flaw.specs.Flaws.{IsFlaw}
 -- the kind of a flaw
 abbrev pub kind_of : Flaw → MetaFaultKind
 kind_of (flaws.Syntax expected) = faults.Syntax
-kind_of flaws.NamedType = faults.Syntax
+kind_of flaws.TypeDefinition = faults.Syntax
+kind_of (flaws.NamedType expected) = faults.Syntax
 kind_of flaws.LabelWithoutValue = faults.Syntax
 kind_of (flaws.NoClock clocks) = faults.Syntax
 kind_of (flaws.NoStream orphan) = faults.Syntax

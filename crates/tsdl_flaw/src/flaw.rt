@@ -22,8 +22,10 @@ pub const CONVERTED: &str = " (`babeltrace2 -o ctf` converts such a trace)";
 pub enum Flaw {
     /// Something else than these words expect.
     Syntax(&'static str),
-    /// A type by its name.
-    NamedType,
+    /// A definition of a type with a name.
+    TypeDefinition,
+    /// A type by its name, where something else is expected.
+    NamedType(&'static str),
     /// A label of an enumeration without a value.
     LabelWithoutValue,
     /// No clock has the name that an integer is mapped to; the clocks that there are, in words.
@@ -49,7 +51,8 @@ impl Flaw {
     {
         match self {
             Flaw::Syntax(_)
-            | Flaw::NamedType
+            | Flaw::TypeDefinition
+            | Flaw::NamedType(_)
             | Flaw::LabelWithoutValue
             | Flaw::NoClock(_)
             | Flaw::NoStream(_) => MetaFaultKind::Syntax,
@@ -71,7 +74,13 @@ impl Flaw {
                 let expected = limit.words(alloc)?;
                 format!(in alloc; "{}: expected {expected}", MetaFaultKind::Limit)?
             }
-            Flaw::NamedType => {
+            Flaw::NamedType(expected) => {
+                format!(in alloc;
+                    "{}: expected {expected} (a type by its name is not read here)",
+                    MetaFaultKind::Syntax
+                )?
+            }
+            Flaw::TypeDefinition => {
                 format!(in alloc; "a type by its name is TSDL that is not read here{CONVERTED}")?
             }
             Flaw::LabelWithoutValue => {
@@ -159,7 +168,6 @@ pub enum Remedy {
     WithType(&'static str),
     /// It is read with this number.
     WithNumber(u64),
-    Nothing,
 }
 
 impl Remedy {
@@ -174,7 +182,6 @@ impl Remedy {
             Remedy::WithNumber(expected) => {
                 format!(in alloc; "with this number: expected {expected}")?
             }
-            Remedy::Nothing => String::from_str(alloc, "here")?,
         })
     }
 }

@@ -21,7 +21,8 @@ use Rattle.tsdl_reader.specs.Reading.{IsFlawOf, IsFaultOf, LackSizes}
 -- the flaw of what stands at a place
 pub placed : (text : List Atom) (at : ℕ) (flaw : Flaw) → IsFlawOf (slice_get text at) flaw → FaultStands text at (kind_of flaw)
 placed text at (flaws.Syntax expected) h = tt
-placed text at flaws.NamedType h = tt
+placed text at flaws.TypeDefinition h = tt
+placed text at (flaws.NamedType expected) h = tt
 placed text at flaws.LabelWithoutValue h = tt
 placed text at (flaws.NoClock clocks) h = absurd h
 placed text at (flaws.NoStream orphan) h = absurd h
@@ -43,7 +44,8 @@ whole_stands text whole (Err stops.NoMemory) same bound h = tt
 -- where something else is expected, no sizes are missed
 pub misses_none : (found : Option Atom) (flaw : Flaw) → IsFlawOf found flaw → kind_of flaw ≡ faults.NoPacketSize → ⊥
 misses_none found (flaws.Syntax expected) h e = absurd cc
-misses_none found flaws.NamedType h e = absurd cc
+misses_none found flaws.TypeDefinition h e = absurd cc
+misses_none found (flaws.NamedType expected) h e = absurd cc
 misses_none found flaws.LabelWithoutValue h e = absurd cc
 misses_none found (flaws.NoClock clocks) h e = absurd h
 misses_none found (flaws.NoStream orphan) h e = absurd h

@@ -57,7 +57,8 @@ IsFaultOf meant stops.NoMemory = Unit {0}
 -- a flaw of one atom, or of the end of the text: a construct that is not read is named by the word that stands there
 abbrev pub IsFlawOf : Option Atom → Flaw → Type 0
 IsFlawOf found (flaws.Syntax expected) = Unit {0}
-IsFlawOf found flaws.NamedType = Unit {0}
+IsFlawOf found flaws.TypeDefinition = Unit {0}
+IsFlawOf found (flaws.NamedType expected) = Unit {0}
 IsFlawOf found flaws.LabelWithoutValue = Unit {0}
 IsFlawOf found (flaws.NoClock clocks) = ⊥
 IsFlawOf found (flaws.NoStream orphan) = ⊥

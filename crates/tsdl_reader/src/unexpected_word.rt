@@ -38,9 +38,12 @@ pub(crate) fn flaw_of_word(
         return Ok(Flaw::Syntax(expected.words()));
     }
     if names_a_definition(alloc, text, at, expected)? {
-        return Ok(Flaw::NamedType);
+        return Ok(Flaw::TypeDefinition);
     }
-    Ok(Flaw::Syntax(words_at_name(alloc, text, at, expected)?))
+    if is_type_name(alloc, text, at, expected)? {
+        return Ok(Flaw::NamedType(expected.words()));
+    }
+    Ok(Flaw::Syntax(expected.words()))
 }
 
 /// Whether a word is told to be not supported: any one where a block begins, and the keywords of constructs that are not
@@ -86,22 +89,20 @@ fn names_a_definition(
     }
 }
 
-/// What is expected where a word stands: in the place of a type it is the name of one, which nothing before can have
-/// defined. At a member it is one where the member's name stands behind it.
-fn words_at_name(
+/// Whether the word of this index stands in the place of a type, which nothing before can have defined. At a member it does
+/// where the member's name stands behind it.
+fn is_type_name(
     alloc: Global,
     text: &[u8],
     at: usize,
     expected: Expected,
-) -> Result<&'static str, AllocError> {
-    Ok(match expected {
-        Expected::Member if is_word(alloc, text, at.saturating_add(1))? => {
-            "`integer`, `enum`, `string` or `}` (a type by its name is not read here)"
-        }
-        Expected::EnumColon => "`:` (a type by its name is not read here)",
-        Expected::EnumInteger => "`integer` (a type by its name is not read here)",
-        Expected::Structure => "`struct` (a type by its name is not read here)",
-        Expected::StructureBrace => "`{` (a type by its name is not read here)",
-        _ => expected.words(),
-    })
+) -> Result<bool, AllocError> {
+    match expected {
+        Expected::Member => is_word(alloc, text, at.saturating_add(1)),
+        Expected::EnumColon
+        | Expected::EnumInteger
+        | Expected::Structure
+        | Expected::StructureBrace => Ok(true),
+        _ => Ok(false),
+    }
 }
