@@ -1,2 +1,3 @@
+pub mod Halting
 pub mod Places
 pub mod Reading
