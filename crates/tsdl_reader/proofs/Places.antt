@@ -9,6 +9,7 @@ use Rattle.tsdl_flaw.specs.declared.flaw.Flaw.TheVariants as flaws
 use Rattle.tsdl_flaw.specs.declared.flaw.Stop.{Stop}
 use Rattle.tsdl_flaw.specs.declared.flaw.Stop.TheVariants as stops
 use Rattle.tsdl_grammar.specs.Spelling.{text_toks}
+use Rattle.tsdl_grammar.specs.Halts.{IsHalt}
 use Rattle.tsdl_flaw.specs.Lengths.{most}
 use Rattle.tsdl_flaw.specs.TextStops.{IsTextFault, StopsText}
 use Rattle.tsdl_flaw.specs.Flaws.{FaultStands}
@@ -18,22 +19,22 @@ use Rattle.tsdl_flaw.proofs.TextStops.{text_stands}
 use Rattle.tsdl_meaning.specs.PacketSizes.{IfSizesMissed, MissesSizes}
 use Rattle.tsdl_reader.specs.Reading.{IsFlawOf, IsFaultOf, LackSizes}
 
--- the flaw of what stands at a place
-pub placed : (text : List Atom) (at : ℕ) (flaw : Flaw) → IsFlawOf (slice_get text at) flaw → FaultStands text at (kind_of flaw)
-placed text at (flaws.Syntax expected) h = tt
-placed text at flaws.TypeDefinition h = tt
-placed text at (flaws.NamedType expected) h = tt
-placed text at flaws.LabelWithoutValue h = tt
-placed text at (flaws.NoClock clocks) h = absurd h
-placed text at (flaws.NoStream orphan) h = absurd h
-placed text at (flaws.Unsupported name remedy) h =
+-- the flaw of what stands where the atoms stop spelling blocks
+pub placed : (text : List Atom) (at : ℕ) (flaw : Flaw) → IsHalt text at → IsFlawOf (slice_get text at) flaw → FaultStands text at (kind_of flaw)
+placed text at (flaws.Syntax expected) halt h = inl halt
+placed text at flaws.TypeDefinition halt h = inl halt
+placed text at (flaws.NamedType expected) halt h = inl halt
+placed text at flaws.LabelWithoutValue halt h = inl halt
+placed text at (flaws.NoClock clocks) halt h = absurd h
+placed text at (flaws.NoStream orphan) halt h = absurd h
+placed text at (flaws.Unsupported name remedy) halt h =
     word_stands text at _ (faults.Unsupported name) h (λ front. inl (record { words = record { first = _; rest = [] }; behind = []; here = refl; same = sym (append-nil _) }))
-placed text at flaws.Duplicate h = absurd h
-placed text at (flaws.NumberTwice numbered) h = absurd h
-placed text at flaws.NoPacketSize h = absurd h
-placed text at (flaws.NoSize sizeless) h = absurd h
-placed text at flaws.BadLength h = absurd h
-placed text at (flaws.Limit expected) h = absurd h
+placed text at flaws.Duplicate halt h = absurd h
+placed text at (flaws.NumberTwice numbered) halt h = absurd h
+placed text at flaws.NoPacketSize halt h = absurd h
+placed text at (flaws.NoSize sizeless) halt h = absurd h
+placed text at flaws.BadLength halt h = absurd h
+placed text at (flaws.Limit expected) halt h = absurd h
 
 -- a fault of a whole text, wherever it is answered
 pub whole_stands : {A : Type 0} (text whole : List Atom) (answer : Result A Stop) → whole ≡ text → length text ≤ most → IfErr answer (StopsText whole) → IfErr answer (IsFaultOf text)

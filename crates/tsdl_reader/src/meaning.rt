@@ -3,6 +3,7 @@
 ghost use Rattle.std.specs.Prelude.{◌<◌, ◌≤◌, length, IfOk, IfErr, IfSome};
 ghost use Rattle.ctf_types.specs.declared.Metadata.{Metadata};
 ghost use Rattle.tsdl_grammar.specs.Fronts.{atoms_in};
+ghost use Rattle.tsdl_grammar.specs.Halts.{IsHalt};
 ghost use Rattle.tsdl_flaw.specs.Stopping.{kind_of};
 ghost use Rattle.tsdl_flaw.specs.Flaws.{FaultStands};
 ghost use Rattle.tsdl_flaw.specs.TextStops.{IfFault};
@@ -42,7 +43,7 @@ pub(crate) fn meaning(alloc: Global, text: &[u8]) -> Result<Metadata, Stop>
     }
 }
 
-/// The first fault of a text of which something else was expected at an atom, where the first atoms can be kept and go on
+/// The first fault of a text that stops spelling blocks at an atom, where the first atoms can be kept and go on
 /// with what is missing: a flaw of the meaning of what is kept, or what stands at the place.
 fn first_fault(
     alloc: Global,
@@ -52,7 +53,8 @@ fn first_fault(
     expected: Expected,
     rest: &[Missing],
 ) -> Stop
-    requires { kept ≤ length (atoms_in text.now) }
+    requires kept { kept ≤ length (atoms_in text.now) }
+    requires halt { IsHalt (atoms_in text.now) at }
     ensures fault { IsFaultOf (atoms_in text.now) result }
     ensures sizes { IfSizesMissed result ⊥ }
 {

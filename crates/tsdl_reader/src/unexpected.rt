@@ -2,6 +2,7 @@
 
 ghost use Rattle.std.specs.Prelude.{IfOk, slice_get};
 ghost use Rattle.tsdl_grammar.specs.Fronts.{atoms_in};
+ghost use Rattle.tsdl_grammar.specs.Halts.{IsHalt};
 ghost use Rattle.tsdl_meaning.specs.PacketSizes.{IfSizesMissed};
 ghost use Rattle.tsdl_reader.specs.Reading.{IsFaultOf, IsFlawOf};
 
@@ -15,8 +16,9 @@ use tsdl_parser::Expected;
 /// The words that blocks begin with.
 const BLOCK_WORDS: &[&str] = &["trace", "env", "clock", "stream", "event"];
 
-/// The fault of a text at an atom where something else is expected.
+/// The fault of a text at the atom where it stops spelling blocks, since something else is expected there.
 pub(crate) fn unexpected(alloc: Global, text: &[u8], at: usize, expected: Expected) -> Stop
+    requires { IsHalt (atoms_in text.now) at }
     ensures fault { IsFaultOf (atoms_in text.now) result }
     ensures sizes { IfSizesMissed result ⊥ }
 {
