@@ -1,4 +1,5 @@
 pub mod Steps
+pub mod Stopping
 pub mod Keywords
 pub mod Repeated
 pub mod Words

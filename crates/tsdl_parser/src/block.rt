@@ -2,7 +2,7 @@
 
 ghost use Rattle.std.specs.Prelude.{◌≡◌, List, IfOk, IfErr};
 ghost use Rattle.tsdl_grammar.specs.Spelling.{text_toks};
-ghost use Rattle.tsdl_parser.specs.Rules.{Block, IfHalted, shown, Gives, item_at, items_at, fact_at, named_fact_at, block_at, ended_block_at};
+ghost use Rattle.tsdl_parser.specs.Rules.{Block, IfHalted, HaltsAmong, shown, Gives, item_at, items_at, fact_at, named_fact_at, block_at, ended_block_at};
 
 use crate::attribute::{attr_behind, name_at};
 use crate::expected::Expected;
@@ -104,6 +104,7 @@ impl Repeated for Block {
 pub fn parse(alloc: Global, atoms: Atoms<'_>) -> Result<Vec<Block>, Unread>
     ensures found { IfOk result (λ bs. (shown atoms.entry) ≡ text_toks bs.items) }
     ensures none { IfErr result (λ e. IfHalted e ((bs : List Block) → (shown atoms.entry) ≡ text_toks bs → ⊥)) }
+    ensures halts { IfErr result (HaltsAmong (shown atoms.entry)) }
 {
     let (found, _) = all_at(alloc, atoms, Start::InText)?;
     Ok(found.into_vec())

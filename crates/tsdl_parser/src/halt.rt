@@ -1,14 +1,15 @@
 //! Where a text stops spelling blocks, what was expected there, and how the text could go on. The rule that stops says what
 //! it lacks, and each rule around it adds what closes it.
 
-ghost use Rattle.std.specs.Prelude.{◌≡◌, ◌-◌, ◌≤◌};
+ghost use Rattle.std.specs.Prelude.{◌≡◌, ◌-◌, ◌^◌, ◌<◌, ◌≤◌, ◌++◌, length, take};
+ghost use Rattle.tsdl_grammar.specs.Fronts.{atoms_in, shown};
 ghost use Rattle.tsdl_parser.specs.Halting.{Alike};
 ghost use Rattle.tsdl_parser.specs.declared.halt.Unread.TheVariants.{Memory};
 
 use crate::expected::Expected;
 use arrayvec::ArrayVec;
 use std::alloc::AllocError;
-use tsdl_grammar::{Atoms, Mark};
+use tsdl_grammar::{Atoms, Mark, atom_count};
 
 /// An atom that a text could go on with.
 #[derive(Clone, Copy, Debug, Default, PartialEq, Eq)]
@@ -80,7 +81,9 @@ pub struct Halt {
 
 impl Halt {
     /// The halt in front of these atoms, from where a text could go on with what is missing.
-    pub(crate) fn before(atoms: Atoms<'_>, expected: Expected, missing: &[Missing]) -> Halt {
+    pub(crate) fn before(atoms: Atoms<'_>, expected: Expected, missing: &[Missing]) -> Halt
+        ensures { result.left ≡ length (shown atoms.entry) }
+    {
         let mut rest = ArrayVec::new();
         let _fits = rest.try_extend_from_slice(missing);
         Halt {
@@ -109,14 +112,22 @@ impl Halt {
 }
 
 /// How many atoms are left.
-fn left(atoms: Atoms<'_>) -> usize {
-    let mut count = 0usize;
-    let mut rest = atoms;
-    while rest.front.is_some() {
-        count = count.saturating_add(1);
-        rest = rest.behind();
+fn left(atoms: Atoms<'_>) -> usize
+    ensures { result ≡ length (shown atoms.entry) }
+{
+    match atoms.front {
+        Some(_) => 1 + left_behind(atoms.text, atoms.count, atoms.more),
+        None => 0,
     }
-    count
+}
+
+/// How many atoms the first one is followed by: those of a text, at most so many, and those of another text.
+#[tactic(auto, using(tsdl_grammar::proofs::AtomsAhead::few))]
+fn left_behind(text: &[u8], count: usize, more: &[u8]) -> usize
+    ensures count { result ≡ length (take count (atoms_in text.now) ++ atoms_in more.now) }
+    ensures small { result < 2 ^ 64 - 1 }
+{
+    atom_count(text).min(count) + atom_count(more)
 }
 
 /// What was found, or the same halt with what is missing here behind its rest.

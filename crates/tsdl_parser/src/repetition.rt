@@ -1,7 +1,7 @@
 //! Reads what stands any number of times, one after the other.
 
-ghost use Rattle.std.specs.Prelude.{◌≡◌, List, Option, IfOk};
-ghost use Rattle.tsdl_parser.specs.Rules.{Atom, shown, Gives, Shortens, many, braced_at, starts};
+ghost use Rattle.std.specs.Prelude.{◌≡◌, List, IfOk};
+ghost use Rattle.tsdl_parser.specs.Rules.{Atom, Outcome, shown, Gives, Shortens, many, braced_at, starts};
 
 use crate::enumeration::is_labelled;
 use crate::halt::Unread;
@@ -13,7 +13,7 @@ use tsdl_grammar::{Atoms, Mark};
 
 /// What can stand any number of times, one after the other.
 pub(crate) trait Repeated: Drop {
-    ghost item: { List Atom → Option (Self × List Atom) };
+    ghost item: { List Atom → Outcome (Self × List Atom) };
 
     /// One of them.
     fn item_at(alloc: Global, atoms: Atoms<'_>) -> Read<'_, Self>
