@@ -1,6 +1,6 @@
 -- Names, values and attributes are read as they are spelled, and stop where nothing that is spelled goes on. A name goes on for as long
 -- as dots follow.
-use Rattle.tsdl_parser.proofs.Steps.{Atom, many, Attribute, Found, List, Name, None, Number, Some, Stopped, [], along, ap, append_assoc, arith, attr_at, attr_behind, attr_toks, begins, bind_found, codes, dotted, dotted_at, false, flat_map, is_open, length, mark, mark_at, name_at, name_toks, number_at, number_toks, refl, signed_at, step, suc, sym, value_at, value_toks, word, word_at, ℕ, ◌++◌, ◌∙◌, ◌∷◌, ◌≡◌}
+use Rattle.tsdl_parser.proofs.Steps.{Atom, many, Attribute, Found, List, Name, None, Number, Stopped, [], along, ap, append_assoc, arith, attr_at, attr_behind, attr_toks, begins, bind_found, codes, dotted, dotted_at, false, flat_map, is_open, length, mark, mark_at, name_at, name_toks, number_at, number_toks, refl, signed_at, step, suc, sym, value_at, value_toks, word, word_at, ℕ, ◌++◌, ◌∙◌, ◌∷◌, ◌≡◌}
 use Rattle.tsdl_parser.proofs.Words.{mark_step, word_takes, number_as, by_sign, begins_first, behind_mark, word_reads, number_same, number_stops_as}
 use Rattle.tsdl_parser.proofs.Repeated.{Spells, Anything, anywhere, many_take, many_again, item_reads, many_reads}
 use Rattle.tsdl_parser.proofs.Stopping.{Reads, StartAlike, Stops, ahead, as_if, behind, found_is_no_stop, last, within}

@@ -1,6 +1,6 @@
 -- Blocks, and what stands in them, are read as they are spelled, so a list of atoms spells at most one list of blocks. Where none are
 -- read, the atoms stop spelling blocks at the place where the reading stops.
-use Rattle.tsdl_parser.proofs.Steps.{◌>>=◌, bind_found, Atom, Attribute, Fails, Found, List, Name, None, Number, Outcome, Some, Stopped, Unread, [], all_blocks_at, along, ap, append-nil, append_assoc, arith, attr_behind, begins, block_and_semicolon, block_at, block_toks, braced, braced_at, either, codes, ended_block_at, fact_at, fact_toks, false, flat_map, has_more, is_open, item_at, item_toks, items_at, items_toks, keyword_at, length, length-append, mark, mark_at, name_at, name_toks, named_fact_at, named_fact_toks, names, number_at, number_toks, refl, scope_behind, scope_toks, signed_at, found_is, splice, step, struct_at, struct_toks, subst, suc, sym, text_toks, true, word, word_at, ℕ, ◌++◌, ◌+◌, ◌<◌, ◌∙◌, ◌∷◌, ◌≡◌}
+use Rattle.tsdl_parser.proofs.Steps.{◌>>=◌, bind_found, Atom, Attribute, Fails, Found, List, Name, None, Number, Outcome, Stopped, Unread, [], all_blocks_at, along, ap, append-nil, append_assoc, arith, attr_behind, begins, block_and_semicolon, block_at, block_toks, braced, braced_at, either, codes, ended_block_at, fact_at, fact_toks, false, flat_map, has_more, is_open, item_at, item_toks, items_at, items_toks, keyword_at, length, length-append, mark, mark_at, name_at, name_toks, named_fact_at, named_fact_toks, names, number_at, number_toks, refl, scope_behind, scope_toks, signed_at, found_is, splice, step, struct_at, struct_toks, subst, suc, sym, text_toks, true, word, word_at, ℕ, ◌++◌, ◌+◌, ◌<◌, ◌∙◌, ◌∷◌, ◌≡◌}
 use Rattle.tsdl_parser.proofs.Words.{mark_step, word_takes, keyword_step, number_as, by_sign, begins_first, names_first, behind_mark, behind_keyword, word_reads, number_stops_as}
 use Rattle.tsdl_parser.proofs.Repeated.{Spells, Anything, anywhere, many_take, many_again, braced_take, braced_again, item_reads, many_reads, braced_reads}
 use Rattle.tsdl_parser.proofs.Stopping.{ByFirst, IsStopped, Reads, StartAlike, Stops, ahead, as_if, behind, by_test, found_is_no_stop, last, made_of, stopped_first, within}
@@ -291,12 +291,15 @@ pub halts_among : (e : Unread) (ts : List Atom) → Fails e (all_blocks_at ts) �
 halts_among unread.Memory ts h = tt
 halts_among (unread.Halted s) ts h =
     let q = blocks_read.stops ts s.left h in
-    let place : length q.seen + s.left ≡ length ts = omega (arith, ap length q.parts, length-append q.seen q.here, q.count) in
-    (length q.seen, place, record {
-      before = q.seen;
-      behind = q.here;
-      parts = q.parts;
-      place = refl;
-      goes_on = (q.goes_on.value, (q.goes_on.later, q.goes_on.spelled));
-      stuck = is_stuck q.seen q.here q.stuck;
-    })
+    let place : length q.seen + s.left ≡ length ts = omega (arith, ap length q.parts, length-append q.seen q.here, q.count) in (
+      length q.seen,
+      place,
+      record {
+        before = q.seen;
+        behind = q.here;
+        parts = q.parts;
+        place = refl;
+        goes_on = (q.goes_on.value, (q.goes_on.later, q.goes_on.spelled));
+        stuck = is_stuck q.seen q.here q.stuck;
+      },
+    )

@@ -1,6 +1,6 @@
 -- Items one after the other: what holds of the reading and the spelling of one item holds of all of them, and what a
 -- loop over them keeps.
-use Rattle.tsdl_parser.proofs.Steps.{Atom, Bool, Fails, Found, List, Outcome, Shortens, Stopped, Unread, [], along, ap, append-nil, append_assoc, arith, begins, bind_found, braced, braced_at, either, cond, false, flat_map, is_open, length, length-append, not, many, many_at, mark, mark_at, refl, same_steps, step, subst, suc, sym, true, zero, ℕ, ◌++◌, ◌<◌, ◌>>=◌, ◌∙◌, ◌∷◌, ◌≡◌, ◌≤◌}
+use Rattle.tsdl_parser.proofs.Steps.{Atom, Bool, Fails, Found, List, Outcome, Shortens, Stopped, Unread, [], along, ap, append-nil, append_assoc, arith, begins, bind_found, braced, braced_at, either, cond, false, flat_map, is_open, length, length-append, not, many, many_at, mark, mark_at, refl, same_steps, step, subst, suc, sym, true, zero, ℕ, ◌++◌, ◌<◌, ◌>>=◌, ◌∙◌, ◌∷◌, ◌≡◌}
 use Rattle.tsdl_parser.proofs.Words.{mark_step, begins_first, behind_mark}
 use Rattle.tsdl_parser.proofs.Stopping.{Begins, ByFirst, IsStopped, PartOf, Reads, StartAlike, Stops, ahead, alike_from, begun, behind, found_is_no_stop, last, stopped_first, stopped_on}
 use Rattle.std.proofs.lemmas.List.Concat.{flat_map-cons}
@@ -163,7 +163,6 @@ module _ {A : Type 0} (starts : List Atom → Bool) (item : List Atom → Outcom
   pub many_same : (ts : List Atom) (x : List A × List Atom) → many starts item ts ≡ Found x → (us : List Atom) → StartAlike x.1 us → starts us ≡ false → many starts item (flat_map toks x.0 ++ us) ≡ Found (x.0, us)
   many_same ts x e us h stop = same_in (suc (length ts)) ts x (omega arith) e us h stop
 
-
 -- items stop where one of them does: there another one has started, whatever follows that begins alike
 module _ {A : Type 0} (starts : List Atom → Bool) (item : List Atom → Outcome (A × List Atom)) (toks : A → List Atom) (Ends : List Atom → Type 0) (s : Spells A starts item toks Ends) (r : Reads A item toks) (stays : (ts seen here us : List Atom) → starts ts ≡ true → item ts ≡ Stopped (length here) → ts ≡ seen ++ here → StartAlike here us → starts (seen ++ us) ≡ true) where
   abbrev others : A × List Atom → Outcome (List A × List Atom)
@@ -182,9 +181,9 @@ module _ {A : Type 0} (starts : List Atom → Bool) (item : List Atom → Outcom
         count = q.count;
         goes_on = one_begins toks q.seen q.goes_on;
         stuck = λ us h.
-          let stay = stays ts q.seen q.here us go (f ∙ ap (λ (m : ℕ). Stopped m) (same ∙ q.count)) q.parts h in
-          let tried : many starts item (q.seen ++ us) ≡ (item (q.seen ++ us) >>= others) = many_is starts item (shortens starts item toks Ends s) (q.seen ++ us) ∙ rw stay refl in
-          subst (λ (o : Outcome (List A × List Atom)). IsStopped o) (sym tried) (stopped_on (item (q.seen ++ us)) others (q.stuck us h));
+            let stay = stays ts q.seen q.here us go (f ∙ ap (λ (m : ℕ). Stopped m) (same ∙ q.count)) q.parts h in
+            let tried : many starts item (q.seen ++ us) ≡ (item (q.seen ++ us) >>= others) = many_is starts item (shortens starts item toks Ends s) (q.seen ++ us) ∙ rw stay refl in
+            subst (λ (o : Outcome (List A × List Atom)). IsStopped o) (sym tried) (stopped_on (item (q.seen ++ us)) others (q.stuck us h));
       }
   in_item ts left (Found x) f go e next =
       let q = next x.0 x.1 f (stopped_first (many starts item x.1) (λ xs. (x.0 ∷ xs.0, xs.1)) left e) in
@@ -195,9 +194,9 @@ module _ {A : Type 0} (starts : List Atom → Bool) (item : List Atom → Outcom
         count = q.count;
         goes_on = more_begin toks x.0 q.seen q.goes_on;
         stuck = λ us h.
-          let found = r.same ts x f (q.seen ++ us) (alike_from x.1 q.seen q.here us q.parts h) in
-          let tried = ap (many starts item) (append_assoc (toks x.0) q.seen us) ∙ one_more starts item (shortens starts item toks Ends s) (toks x.0 ++ (q.seen ++ us)) x.0 (q.seen ++ us) (s.opens x.0 (q.seen ++ us)) found in
-          subst (λ (o : Outcome (List A × List Atom)). IsStopped o) (sym tried) (stopped_on (many starts item (q.seen ++ us)) (λ (xs : List A × List Atom). Found (x.0 ∷ xs.0, xs.1)) (q.stuck us h));
+            let found = r.same ts x f (q.seen ++ us) (alike_from x.1 q.seen q.here us q.parts h) in
+            let tried = ap (many starts item) (append_assoc (toks x.0) q.seen us) ∙ one_more starts item (shortens starts item toks Ends s) (toks x.0 ++ (q.seen ++ us)) x.0 (q.seen ++ us) (s.opens x.0 (q.seen ++ us)) found in
+            subst (λ (o : Outcome (List A × List Atom)). IsStopped o) (sym tried) (stopped_on (many starts item (q.seen ++ us)) (λ (xs : List A × List Atom). Found (x.0 ∷ xs.0, xs.1)) (q.stuck us h));
       }
 
   stops_in : (n : ℕ) (ts : List Atom) (left : ℕ) → length ts < n → many starts item ts ≡ Stopped left → Stops (List A) (List A × List Atom) (flat_map toks) [] (many starts item) ts left

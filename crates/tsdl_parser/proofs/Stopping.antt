@@ -47,7 +47,7 @@ ByFirst test = (ts us : List Atom) → StartAlike ts us → test ts ≡ test us
 
 -- ---- what goes on
 
--- nothing is known of what was found to be stopped
+-- what was found is not stopped
 pub found_is_no_stop : {A P : Type 0} (x : A) (left : ℕ) → Found x ≡ Stopped left → P
 found_is_no_stop x left e = absurd cc
 
@@ -146,8 +146,8 @@ second_stops {D} {whole} {front} rule k after part ts rest left parts same s = r
   count = s.count;
   goes_on = shift whole front part s.seen s.goes_on;
   stuck = λ us h.
-    let found = ap rule (append_assoc part s.seen us) ∙ same (s.seen ++ us) (alike_from rest s.seen s.here us s.parts h) in
-    subst (λ (o : Outcome D). IsStopped o) (sym (ap (λ (o : Outcome _). o >>= k) found)) (s.stuck us h);
+      let found = ap rule (append_assoc part s.seen us) ∙ same (s.seen ++ us) (alike_from rest s.seen s.here us s.parts h) in
+      subst (λ (o : Outcome D). IsStopped o) (sym (ap (λ (o : Outcome _). o >>= k) found)) (s.stuck us h);
 }
 
 -- a rule that reads, and one behind it: either stops

@@ -1,6 +1,6 @@
 -- Marks, words and numbers are read as they are spelled.
 use Rattle.tsdl_parser.proofs.Steps.{begins, bind_found, codes, names, Atom, Found, List, None, Number, Outcome, Some, Stopped, [], along, ap, cond_found, length, is_mark, is_word, keyword_at, mark, mark_at, number_at, number_toks, refl, signed_at, step, sym, true, word, word_at, ℕ, ◌++◌, ◌>>=◌, ◌∙◌, ◌∷◌, ◌≡◌}
-use Rattle.tsdl_parser.proofs.Stopping.{Begins, ByFirst, Reads, StartAlike, Stops, at_once, behind, behind_one, found_is_no_stop, last}
+use Rattle.tsdl_parser.proofs.Stopping.{Begins, ByFirst, Reads, Stops, at_once, behind, behind_one, found_is_no_stop, last}
 use denote.Enum.Bare.{same_true}
 use Rattle.std.proofs.lemmas.Slice.Eq.{bytes_eq-Decides}
 use Rattle.tsdl_grammar.specs.contracts.token.Mark.{the_type}

@@ -16,7 +16,6 @@ pub data Outcome (A : Type 0) : Type 0 where
   Stopped : ℕ → Outcome A
 
 infixl 10 ◌>>=◌
-
 -- what was found, and then a rule behind it
 abbrev pub ◌>>=◌ : {A B : Type 0} → Outcome A → (A → Outcome B) → Outcome B
 Found x >>= f = f x
