@@ -13,6 +13,7 @@ pub mod WalkOrderLaws
 pub mod FirstAtTurn
 pub mod FirstFlawLaws
 pub mod FirstLimitLaws
+pub mod TreeFlawLaws
 pub mod Worked
 pub mod WorkedOrder
 pub mod NamesInOrder

@@ -1,10 +1,17 @@
--- Which of two flaws of a small configuration stands before the other, and which of two of one turn, or of the whole.
-use Rattle.std.proofs.Common.{List, [], ◌∷◌, None, inl, inr, refl, arith, codes}
-use Rattle.conf_laws.specs.FlawOrder.{BeforeAtTurn, BeforeInWhole}
+-- Which of two flaws of a small configuration stands before the other, and which of two of one turn, of the whole, or of a value as a tree.
+use Rattle.std.proofs.Common.{◌≡◌, List, [], ◌∷◌, None, Less, inl, inr, refl, ap, arith, codes}
+use Rattle.std.specs.Cmp.Lexicographic.{slice_cmp}
+use Rattle.std.specs.Ordering.{nat_cmp}
+use Rattle.std.specs.declared.cmp.Ordering.{Ordering, TheVariants.{Equal, Greater}}
+use Rattle.std.specs.Prelude.{Float}
+use Rattle.serde_json.specs.Data.{float}
+use Rattle.conf_laws.specs.FlawOrder.{OuterBefore, BeforeAtTurn, BeforeInWhole}
+use Rattle.conf_laws.specs.TreeOrder.{IsTreeFlaw, IsFirstInTree}
 use Rattle.conf_laws.specs.WalkOrder.{StandsBefore}
-use Rattle.conf_tree.specs.declared.fault_kind.FaultKind.TheVariants.{WrongKind, OutOfRange, ReservedName, NameClash, NoClock, NoUuid}
+use Rattle.conf_laws.proofs.TreeFlawLaws.{first_tree_flaw}
+use Rattle.conf_tree.specs.declared.fault_kind.FaultKind.TheVariants.{WrongKind, NotWhole, OutOfRange, ReservedName, NameClash, NoClock, NoUuid}
 use Rattle.conf_laws.proofs.Readings.{some_none}
-use Rattle.conf_laws.proofs.Words.{HasNotItsRows, IsFlawOf, Needed, rows_of, entries_of, content_under, presence_under, At, is_position, own_place, place_of_properties, Flaw, PathPart as Place, key, index, Missing, Unknown, FaultKind, null, object, Members, no_members, member}
+use Rattle.conf_laws.proofs.Words.{HasNotItsRows, IsFlawOf, Needed, rows_of, entries_of, content_under, presence_under, At, is_position, own_place, place_of_properties, Flaw, PathPart as Place, key, index, Missing, Unknown, FaultKind, Data, null, number, unsigned, array, object, no_items, item, Members, no_members, member}
 use Rattle.conf_laws.proofs.Words.places
 
 abbrev flaw_at : List Place → FaultKind → Flaw
@@ -54,3 +61,49 @@ clock_before_identifier = inl (14, 15, omega arith, refl, refl)
 -- of two missing clocks the one at the lower name
 lower_clock_first : BeforeInWhole (flaw_at (key (codes "a") ∷ []) NoClock) (flaw_at (key (codes "b") ∷ []) NoClock)
 lower_clock_first = inr (refl, inl refl)
+
+-- ---- a value as a tree
+
+-- `{"a": [1, 2.5], "b": 1e3}`, with any two floats
+abbrev two_floats : Float → Float → Data
+two_floats x y = object (member (codes "a") (array (item (number (unsigned 1)) (item (number (float x)) no_items))) (member (codes "b") (number (float y)) no_members))
+
+abbrev at_a : Flaw
+at_a = flaw_at (key (codes "a") ∷ index 1 ∷ []) NotWhole
+
+abbrev at_b : Flaw
+at_b = flaw_at (key (codes "b") ∷ []) NotWhole
+
+-- both are flaws
+flaw_at_a : (x y : Float) → IsTreeFlaw (two_floats x y) at_a
+flaw_at_a x y = (number (float x), (_, _, refl, inl (refl, refl), (_, _, refl, refl, refl)), refl)
+
+flaw_at_b : (x y : Float) → IsTreeFlaw (two_floats x y) at_b
+flaw_at_b x y = (number (float y), (_, _, refl, inr (inl (refl, refl)), refl), refl)
+
+-- the one at the lower name is the first, although it lies deeper
+lower_float_first : (x y : Float) → IsFirstInTree (two_floats x y) at_a
+lower_float_first x y = first_tree_flaw (two_floats x y) at_a (((refl, tt), (tt, tt)), ((tt, (tt, tt)), (tt, tt))) refl
+
+-- how the first name of a path stands to `b`
+abbrev from_b : List Place → Ordering
+from_b (key name ∷ path) = slice_cmp nat_cmp (codes "b") name
+from_b _ = Less
+
+not_above : Equal ≡ Greater → ⊥
+not_above e = cc
+
+not_below : Greater ≡ Less → ⊥
+not_below e = cc
+
+-- and the other is not
+upper_float_later : (x y : Float) → ¬ IsFirstInTree (two_floats x y) at_b
+upper_float_later x y first = elim (first.1 at_a (flaw_at_a x y)) [
+  | inl same ↦ not_above (ap (λ (f : Flaw). from_b f.path) same)
+  | inr (inl less) ↦ not_below less
+  | inr (inr (same, later)) ↦ not_above (ap (λ (part : Place). from_b (part ∷ [])) same)
+]
+
+-- a list before what it holds
+list_before_items : OuterBefore (index 1 ∷ []) (index 1 ∷ index 0 ∷ [])
+list_before_items = inr (refl, tt)

@@ -4,4 +4,5 @@ pub mod ValueFlaws
 pub mod TableFlaws
 pub mod TableLimits
 pub mod FlawOrder
+pub mod TreeOrder
 pub mod WalkOrder

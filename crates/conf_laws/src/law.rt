@@ -4,7 +4,8 @@ ghost use Rattle.std.specs.Prelude.{◌≡◌, ◌≤◌, ℕ, pos, true, List, 
 ghost use Rattle.serde_json.specs.Data.{Data, Members};
 ghost use Rattle.conf_tree.specs.Flaw.{Flaw};
 ghost use Rattle.conf_tree.specs.Order.{Ascends};
-ghost use Rattle.conf_tree.specs.Walk.{refusal};
+ghost use Rattle.conf_tree.specs.Walk.{flaws, refusal};
+ghost use Rattle.conf_tree.specs.declared.limits.TheConstants.{MAX_LEVELS};
 ghost use Rattle.conf_table.specs.declared.place.Place.TheVariants.{Root};
 ghost use Rattle.conf_table.specs.declared.row.Content.TheVariants.{At};
 ghost use Rattle.conf_judge.specs.Flaws.{configuration_flaws};
@@ -20,6 +21,7 @@ ghost use Rattle.ctf_types.specs.declared.limits.TheConstants.{LARGEST_ALIGN};
 ghost use Rattle.conf_laws.specs.Rules.{KeepsRules};
 ghost use Rattle.conf_laws.specs.TableFlaws.{IsFlawOf};
 ghost use Rattle.conf_laws.specs.TableLimits.{PassesLimitOf};
+ghost use Rattle.conf_laws.specs.TreeOrder.{IsTreeFlaw, IsFirstInTree};
 ghost use Rattle.conf_laws.specs.WalkOrder.{IsFirstOf, IsFirstLimitOf};
 
 /// What has no flaw says something.
@@ -76,4 +78,16 @@ pub fn first_flaw_is_first()
 #[tactic(auto, using(crate::proofs::FirstLimitLaws::first_limit_found))]
 pub fn first_limit_is_first()
     ensures { (d : Data) (flaw : Flaw) → Ascends d → refusal (configuration_limits d) ≡ Err flaw → IsFirstLimitOf d flaw }
+{}
+
+/// The flaw that a walk over a value as a tree answers is one, and stands before each other one: of an object or a list before what it
+/// holds, and then of properties in byte order of their names and of items by index, where the names of each object are in that order.
+#[tactic(auto, using(crate::proofs::TreeFlawLaws::first_tree_flaw))]
+pub fn first_tree_flaw_is_first()
+    ensures { (d : Data) (flaw : Flaw) → Ascends d → refusal (flaws d MAX_LEVELS) ≡ Err flaw → IsFirstInTree d flaw }
+{}
+
+/// Where a walk over a value as a tree answers none, the value has no flaw.
+pub fn no_tree_flaw_is_left()
+    ensures { (d : Data) (flaw : Flaw) → Ascends d → flaws d MAX_LEVELS ≡ [] → ¬ IsTreeFlaw d flaw }
 {}
