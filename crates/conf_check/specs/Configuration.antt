@@ -16,6 +16,7 @@ use Rattle.conf_draft.specs.declared.draft.Draft.{Draft}
 use Rattle.conf_draft.specs.Traces.{draft_of}
 use Rattle.conf_laws.specs.TableFlaws.{IsFlawOf}
 use Rattle.conf_laws.specs.TableLimits.{PassesLimitOf}
+use Rattle.conf_laws.specs.TreeOrder.{IsTreeFlaw, IsFirstInTree}
 use Rattle.conf_check.specs.FirstFlaw.{IsFirstFlawOf, IsFlawOfWhole}
 use Rattle.conf_check.specs.Judgement.{KeepsAllRows}
 use Rattle.conf_check.specs.WholeFlaws.{BreaksRule}
@@ -55,6 +56,10 @@ IsRefusal text number flaw =
     IsFirstFlaw text flaw
     ⊎ ((t : Data) × IsTreeOf text t × (resolution t ≡ Err flaw))
     ⊎ ((t : Data) × (r : Data) × IsTreeOf text t × (resolution t ≡ Ok r) × IsFirstFlawOf r number flaw)
+
+-- where the text's value has a flaw as a tree, this flaw is the first that it has
+abbrev pub TellsFirstInTree : List ℕ → Flaw → Type 0
+TellsFirstInTree text flaw = (d : Data) (other : Flaw) → Reads text d → IsTreeFlaw d other → IsFirstInTree d flaw
 
 -- the resolved tree is no configuration: an object has a row that does not hold, or all rows hold, and the whole breaks a rule
 -- or passes a limit

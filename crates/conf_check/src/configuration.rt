@@ -3,7 +3,7 @@ ghost use Rattle.std.specs.Prelude.{◌⊎◌, IfOk, IfErr};
 ghost use Rattle.ctf_types.specs.declared.Config.{Config as Configuration};
 ghost use Rattle.ctf_types.specs.AllowedConfig.{IsConfig};
 ghost use Rattle.conf_tree.specs.Flaw.{flaw_of, IsMemory};
-ghost use Rattle.conf_check.specs.Configuration.{Configures, ConfiguresResolved, ConfiguresByLookUp, GivesThat, HasNoFault, IsRefusal, RefusalIsTrue, RefusedForMemory};
+ghost use Rattle.conf_check.specs.Configuration.{Configures, ConfiguresResolved, ConfiguresByLookUp, GivesThat, HasNoFault, IsRefusal, RefusalIsTrue, RefusedForMemory, TellsFirstInTree};
 
 use crate::judgement::check;
 use conf_inherit::resolve;
@@ -23,6 +23,10 @@ pub fn configure(alloc: Global, text: &[u8], number: Option<Uuid>) -> Result<Con
     ensures faultless { IfOk result (λ c. HasNoFault text.now number) }
 
     ensures refused { IfErr result (λ fault. IsMemory fault ⊎ IsRefusal text.now number (flaw_of fault)) }
+
+    // Where the text has faults as a tree, the one that is told stands before each other one: an object or a list before its
+    // content, properties in byte order of their names, items by index.
+    ensures first_in_tree { IfErr result (λ fault. IsMemory fault ⊎ TellsFirstInTree text.now (flaw_of fault)) }
 
     // The fault's kind holds at its path.
     ensures holds { IfErr result (λ fault. IsMemory fault ⊎ RefusalIsTrue text.now number (flaw_of fault)) }

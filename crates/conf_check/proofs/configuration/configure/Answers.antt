@@ -1,7 +1,9 @@
 use Rattle.std.proofs.Common.{inl, inr}
 use Rattle.std.proofs.lemmas.Result.{IfOk-weaker, IfErr-weaker, err_from_is_err_and}
 use Rattle.serde_json.specs.View.{view}
+use Rattle.conf_tree.specs.Flaw.{flaw_of}
 use Rattle.conf_check.proofs.ConfigurationLaws.{memory_or, text_excluded, no_tree, memory_alone, refused_for_memory, configured_by_look_up, answered_by_look_up}
+use Rattle.conf_check.proofs.ExcludedTexts.{none_to_tell, first_told}
 use Rattle.conf_check.proofs.configuration.configure.Goals as goal
 
 pub returns-clause-only : goal.returns-clause-only
@@ -27,6 +29,20 @@ returns-clause-refused c =
 pub returns-clause-holds : goal.returns-clause-holds
 returns-clause-holds c =
     IfErr-weaker c.check.result _ _ (λ fault wrong. memory_or wrong (λ wrong. inr (inr (view c.in_ok-tree.tree.value, view c.in_ok-resolved.resolved.value, c.in_ok-tree.ensures.tree, c.in_ok-resolved.ensures.resolved, wrong)))) c.check.ensures.refused
+
+pub returns-clause-first_in_tree : goal.returns-clause-first_in_tree
+returns-clause-first_in_tree c =
+    IfErr-weaker c.check.result _ _ (λ fault only. inr (none_to_tell c.args.text.now (view c.in_ok-tree.tree.value) (flaw_of fault) c.in_ok-tree.ensures.tree)) c.check.ensures.only
+
+pub returns-in_err-resolved-clause-first_in_tree : goal.returns-in_err-resolved-clause-first_in_tree
+returns-in_err-resolved-clause-first_in_tree c =
+    let p = err_from_is_err_and c.from_residual-in_err-resolved.result c.from_residual-in_err-resolved.ensures.1 in
+    rw (p.1, p.2) (inr (none_to_tell c.args.text.now (view c.in_ok-tree.tree.value) (flaw_of c.in_err-resolved.field-0.0) c.in_ok-tree.ensures.tree))
+
+pub returns-in_err-tree-clause-first_in_tree : goal.returns-in_err-tree-clause-first_in_tree
+returns-in_err-tree-clause-first_in_tree c =
+    let p = err_from_is_err_and c.from_residual.result c.from_residual.ensures.1 in
+    rw (p.1, p.2) (first_told c.args.text.now c.in_err-tree.field-0.0 c.in_err-tree.ensures.first)
 
 pub returns-in_err-resolved-clause-exact : goal.returns-in_err-resolved-clause-exact
 returns-in_err-resolved-clause-exact c =
