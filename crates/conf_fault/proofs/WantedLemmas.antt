@@ -143,16 +143,17 @@ in_class text value content position words was now e f h =
     subst (λ (o : Option Content). Adds (IsInRange text value o position) was now) (sym e) (subst (λ (ws : List (List ℕ)). Adds (IsChoice text value ws) was now) f h)
 
 -- of the kinds that have no words of their own, what the table expects is told
-pub told_of_others : (text : List ℕ) (kind : FaultKind) (path : List Step) (end : PathEnd) (said : List ℕ) → kind ≢ kinds.Unknown → kind ≢ kinds.OutOfRange → kind ≢ kinds.NoSuchAlias → kind ≢ kinds.NoClock
-    → kind ≢ kinds.FieldTooSmall → kind ≢ kinds.Limit → said ≡ expected_words end.content end.position → IsToldOfKind text kind path end said
+pub told_of_others : (text : List ℕ) (kind : FaultKind) (path : List Step) (end : PathEnd) (said : List ℕ) → kind ≢ kinds.Unknown → kind ≢ kinds.OutOfRange → kind ≢ kinds.BadName → kind ≢ kinds.NoSuchAlias
+    → kind ≢ kinds.NoClock → kind ≢ kinds.FieldTooSmall → kind ≢ kinds.Limit → said ≡ expected_words end.content end.position → IsToldOfKind text kind path end said
 unfolding IsToldOfKind
-told_of_others text kinds.Unknown path end said a b c d e f is = absurd (a refl)
-told_of_others text kinds.OutOfRange path end said a b c d e f is = absurd (b refl)
-told_of_others text kinds.NoSuchAlias path end said a b c d e f is = absurd (c refl)
-told_of_others text kinds.NoClock path end said a b c d e f is = absurd (d refl)
-told_of_others text kinds.FieldTooSmall path end said a b c d e f is = absurd (e refl)
-told_of_others text kinds.Limit path end said a b c d e f is = absurd (f refl)
-told_of_others text _ path end said a b c d e f is = is
+told_of_others text kinds.Unknown path end said a b c d e f g is = absurd (a refl)
+told_of_others text kinds.OutOfRange path end said a b c d e f g is = absurd (b refl)
+told_of_others text kinds.BadName path end said a b c d e f g is = absurd (c refl)
+told_of_others text kinds.NoSuchAlias path end said a b c d e f g is = absurd (d refl)
+told_of_others text kinds.NoClock path end said a b c d e f g is = absurd (e refl)
+told_of_others text kinds.FieldTooSmall path end said a b c d e f g is = absurd (f refl)
+told_of_others text kinds.Limit path end said a b c d e f g is = absurd (g refl)
+told_of_others text _ path end said a b c d e f g is = is
 
 -- the text by the property's name, or what the kind tells where there is none
 pub told_text : (text : List ℕ) (fault : ConfFault) (end : PathEnd) (words : List ℕ) → named_text fault.kind (end_name fault.path) end.content ≡ Some words → IsTold text fault end words

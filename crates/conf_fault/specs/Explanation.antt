@@ -10,7 +10,9 @@ use Rattle.conf_tree.specs.declared.fault_kind.FaultKind.TheVariants.{NotJson, T
 use Rattle.conf_tree.specs.declared.limits.TheConstants.{MAX_LEVELS}
 use Rattle.conf_fault.specs.declared.line_column.LineColumn.{LineColumn}
 use Rattle.conf_fault.specs.LineColumn.{IsPlaceAt, IsPlaceIn}
+use Rattle.conf_fault.specs.declared.stop.Reason.{Reason}
 use Rattle.conf_fault.specs.Shown.{cut, shown}
+use Rattle.conf_fault.specs.Stop.{HasReason, reason_words}
 use Rattle.conf_fault.specs.Wanted.{IsToldAndHinted}
 
 -- words of this kind are added
@@ -115,16 +117,18 @@ abbrev pub IsFoundWords : List ℕ → List ℕ → Type 0
 IsFoundWords bytes words = ((bytes ≡ []) × (words ≡ codes "the end of the text"))
     ⊎ (((c : ℕ) × (others : List ℕ) × (bytes ≡ encode_utf8 c ++ others) × (words ≡ character_words c)) ⊎ (words ≡ codes "a byte that is no UTF-8"))
 
--- a text that is no JSON: a place in it, and what stands just there
+-- a text that is no JSON: a place in it, what stands just there, and what was expected by the reason for which the text goes on no further
 pub record IsNotJson (text said : List ℕ) : Type 0 where
   pub at : ℕ
   pub place : LineColumn
   pub found : List ℕ
+  pub reason : Reason
   pub hint : List ℕ
   pub lies : IsPlaceAt text at place
   pub stands : IsFoundWords (drop at text) found
+  pub stops : HasReason reason text at
   pub looks : IsYamlHint hint
-  pub is : said ≡ place_words place ++ codes "not JSON: found " ++ found ++ codes ": expected one JSON value in UTF-8" ++ hint
+  pub is : said ≡ place_words place ++ codes "not JSON: found " ++ found ++ codes ": expected " ++ reason_words reason ++ hint
 
 -- what is said of a fault of a text, by its kind
 unfoldable pub IsSaidOf : FaultKind → List ℕ → ConfFault → List ℕ → Type 0

@@ -4,4 +4,5 @@ pub mod Found
 pub mod LineColumn
 pub mod Names
 pub mod Shown
+pub mod Stop
 pub mod Wanted

@@ -11,7 +11,7 @@ use Rattle.conf_tree.specs.declared.fault.ConfFault.{ConfFault}
 use Rattle.conf_tree.specs.declared.fault_kind.FaultKind.{FaultKind}
 use Rattle.conf_tree.specs.declared.fault_kind.FaultKind.TheVariants as kinds
 use Rattle.conf_tree.specs.declared.limits.TheConstants.{MAX_VALUES}
-use Rattle.ctf_types.specs.declared.limits.TheConstants.{MAX_ARRAYS, MAX_CONFIG_RANGES, MAX_ELEMENTS, MAX_LABEL_BYTES}
+use Rattle.ctf_types.specs.declared.limits.TheConstants.{MAX_ARRAYS, MAX_CONFIG_RANGES, MAX_ELEMENTS, MAX_LABEL_BYTES, MAX_NAME_BYTES}
 use Rattle.conf_table.specs.declared.place.Place.{Place}
 use Rattle.conf_table.specs.declared.place.Place.TheVariants as places
 use Rattle.conf_table.specs.declared.row.Content.{Content}
@@ -62,7 +62,6 @@ range_text name _ = None
 -- the text of a kind, by the name of the last step
 unfoldable pub named_text : FaultKind → List ℕ → Option Content → Option (List ℕ)
 named_text kinds.Missing name content = if bytes_eq name (codes "trace-byte-order") then Some (codes "just one of `trace-byte-order` and `native-byte-order`") else None
-named_text kinds.BadName name content = Some (codes "a letter or `_`, then letters, digits or `_`, 255 bytes at most")
 named_text kinds.NoClock name content = if bytes_eq name (codes "$default-clock-type-name") then None
     else Some (codes "a `$default-clock-type-name` in this data stream type, or the feature off")
 named_text kinds.TimestampSize name content = Some (if bytes_eq name (codes "timestamp-field-type")
@@ -201,6 +200,10 @@ unfoldable pub limit_words : Option Content → Place → List ℕ
 limit_words (Some (contents.At place)) position = most_words place (option_and_then (λ e. e.most) (entries_of place))
 limit_words content position = expected_words content position
 
+-- what a name has to be
+abbrev pub identifier_words : List ℕ
+identifier_words = codes "a letter or `_`, then letters, digits or `_`, " ++ (decimal MAX_NAME_BYTES ++ codes " bytes at most")
+
 -- the names of an object's rows
 abbrev pub names_of : Place → List (List ℕ)
 names_of holder = map (λ r. r.name) (rows_of holder)
@@ -209,6 +212,7 @@ names_of holder = map (λ r. r.name) (rows_of holder)
 unfoldable pub IsToldOfKind : List ℕ → FaultKind → List Step → PathEnd → List ℕ → Type 0
 IsToldOfKind text kinds.Unknown path end said = IsOneOf (Some (end_name path)) (names_of end.holder) said
 IsToldOfKind text kinds.OutOfRange path end said = IsInRange text end.value end.content end.position said
+IsToldOfKind text kinds.BadName path end said = said ≡ identifier_words
 IsToldOfKind text kinds.NoSuchAlias path end said = IsKnownName text end.value (alias_thing (own_alias path) end.content) (alias_map end.content) (own_alias path) said
 IsToldOfKind text kinds.NoClock path end said = IsKnownName text end.value (codes "a clock type") (codes "clock-types") [] said
 IsToldOfKind text kinds.FieldTooSmall path end said = IsRoom (end_name path) said

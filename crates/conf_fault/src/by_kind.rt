@@ -1,11 +1,11 @@
 //! What was expected, by the kind of a fault.
 
-ghost use Rattle.std.specs.Prelude.{◌≡◌, IfOk, OnOk, Some, map, option_map, string_bytes};
+ghost use Rattle.std.specs.Prelude.{◌≡◌, ◌++◌, IfOk, OnOk, Some, map, option_map, string_bytes};
 ghost use Rattle.std.specs.Option.{option_copied};
 ghost use Rattle.std.specs.List.{list_any};
 ghost use Rattle.conf_fault.specs.Explanation.{Adds, IsWanted, fixed_words as words_of_kind, name_words as words_of_name, same_words as words_without_limit};
 ghost use Rattle.conf_fault.specs.Found.{data_of, end_of};
-ghost use Rattle.conf_fault.specs.Wanted.{IsChoice, IsEnd, IsInRange, IsKnownName, IsOneOf, IsTold, IsToldAndHinted, IsToldOfKind, alias_map as map_of_aliases, alias_thing as alias_thing_of, can_be_whole, end_name as name_of_end, is_control, named_text, names_of, range_text};
+ghost use Rattle.conf_fault.specs.Wanted.{IsChoice, IsEnd, IsInRange, IsKnownName, IsOneOf, IsTold, IsToldAndHinted, IsToldOfKind, alias_map as map_of_aliases, alias_thing as alias_thing_of, can_be_whole, end_name as name_of_end, identifier_words, is_control, named_text, names_of, range_text};
 
 use crate::expected::{classes_at, push_expected, push_nearest, push_words};
 use crate::found::Found;
@@ -15,6 +15,7 @@ use crate::path::{end_name, own_alias};
 use crate::sizes::push_limit;
 use conf_table::{Content, Place, rows, words_in};
 use conf_tree::{ConfFault, FaultKind, MAX_LEVELS, Step};
+use ctf_types::MAX_NAME_BYTES;
 use std::alloc::{AllocError, Global};
 
 /// What was expected where a fault stands.
@@ -73,6 +74,7 @@ fn push_told_of_kind(
     match kind {
         FaultKind::Unknown => push_properties(said, found, end_name(path)),
         FaultKind::OutOfRange => push_in_range(said, found),
+        FaultKind::BadName => push_identifier(found.source.alloc, said),
         FaultKind::NoSuchAlias => push_known_alias(said, found, own_alias(path)),
         FaultKind::NoClock => push_known(said, found, "a clock type", "clock-types", ""),
         FaultKind::FieldTooSmall => push_room(said, found, path),
@@ -153,9 +155,6 @@ fn words_here(kind: FaultKind, name: &str, content: Option<Content>) -> Option<&
         FaultKind::Missing if name == "trace-byte-order" => Some(
             "just one of `trace-byte-order` and `native-byte-order`",
         ),
-        FaultKind::BadName => Some(
-            "a letter or `_`, then letters, digits or `_`, 255 bytes at most",
-        ),
         FaultKind::NoClock if name != "$default-clock-type-name" => Some(
             "a `$default-clock-type-name` in this data stream type, or the feature off",
         ),
@@ -231,6 +230,15 @@ pub(crate) fn is_whole(content: Option<Content>) -> bool
                 | Content::WholeOrText { .. }
         )
     )
+}
+
+/// Adds what a name has to be.
+fn push_identifier(alloc: Global, said: &mut String) -> Result<(), AllocError>
+    ensures { OnOk result (string_bytes said.new ≡ string_bytes said.old ++ identifier_words) }
+{
+    said.push_str(format!(in alloc;
+        "a letter or `_`, then letters, digits or `_`, {MAX_NAME_BYTES} bytes at most"
+    )?.as_str())
 }
 
 /// Adds what was expected where a value is out of range.

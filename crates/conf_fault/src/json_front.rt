@@ -1,13 +1,14 @@
 //! How far a text goes on as JSON.
 
-ghost use Rattle.std.specs.Prelude.{◌≤◌, length, IfOk};
+ghost use Rattle.std.specs.Prelude.{◌≡◌, ◌-◌, drop, take, IfErr, IfOk, IfSome, Some};
+ghost use Rattle.std.specs.Float.Ieee.{binary64};
+ghost use Rattle.std.specs.Float.Parse.{parse_float};
+ghost use Rattle.conf_fault.specs.Stop.{EndsInDigit, IsHalf, IsStop, Stops};
 
 use crate::source::is_space;
+use crate::stop::{MOST_LEVELS, Reason, Stop};
 use std::alloc::{AllocError, Global};
 use std::str;
-
-/// The most objects and lists in one another.
-const MOST_LEVELS: usize = 127;
 
 /// What stands before a byte.
 #[derive(Clone, Copy, PartialEq, Eq)]
@@ -40,9 +41,9 @@ impl Before {
     }
 }
 
-/// The place of the first byte with which a text in UTF-8 is no longer the beginning of a JSON text, or of its end.
-pub(crate) fn longest_front(alloc: Global, text: &[u8]) -> Result<usize, AllocError>
-    ensures { IfOk result (λ most. most ≤ length text.now) }
+/// The place of the first byte with which a text in UTF-8 is no longer the beginning of a JSON text, or of its end, and why it is.
+pub(crate) fn longest_front(alloc: Global, text: &[u8]) -> Result<Stop, AllocError>
+    ensures { IfOk result (IsStop text.now) }
 {
     let mut closing: Vec<u8> = Vec::new(alloc);
     let mut before = Before::Nothing;
@@ -56,7 +57,13 @@ pub(crate) fn longest_front(alloc: Global, text: &[u8]) -> Result<usize, AllocEr
         let takes_name = in_object && before.takes_name();
         let takes_value = before.takes_value(in_object);
         before = match byte {
-            b'{' | b'[' if takes_value && closing.len() < MOST_LEVELS => {
+            b'{' | b'[' if takes_value => {
+                if closing.len() >= MOST_LEVELS {
+                    return Ok(Stop {
+                        at,
+                        reason: Reason::TooDeep,
+                    });
+                }
                 closing.push(if byte == b'{' { b'}' } else { b']' })?;
                 Before::Mark(byte)
             }
@@ -69,7 +76,7 @@ pub(crate) fn longest_front(alloc: Global, text: &[u8]) -> Result<usize, AllocEr
             _ if takes_value || (takes_name && byte == b'"') => {
                 match scalar_end(text, at) {
                     Ok(end) => next = end,
-                    Err(place) => return Ok(place.min(text.len())),
+                    Err(stop) => return Ok(within(text, stop)),
                 }
                 if takes_name {
                     Before::Name
@@ -77,14 +84,38 @@ pub(crate) fn longest_front(alloc: Global, text: &[u8]) -> Result<usize, AllocEr
                     Before::Value
                 }
             }
-            _ => return Ok(at),
+            _ => return Ok(no_json(at)),
         };
     }
-    Ok(text.len())
+    Ok(no_json(text.len()))
+}
+
+/// Where no JSON value goes on so.
+fn no_json(at: usize) -> Stop
+    ensures at { result.at ≡ at }
+    ensures reason { result.reason ≡ Reason.NotJson }
+{
+    Stop {
+        at,
+        reason: Reason::NotJson,
+    }
+}
+
+/// The same, at the text's end where the place is behind it.
+fn within(text: &[u8], stop: Stop) -> Stop
+    requires { Stops text.now stop }
+    ensures { IsStop text.now result }
+{
+    Stop {
+        at: stop.at.min(text.len()),
+        ..stop
+    }
 }
 
 /// The end of the text, the number or the word that begins at a place, or the place of the byte with which it is none.
-fn scalar_end(text: &[u8], at: usize) -> Result<usize, usize> {
+fn scalar_end(text: &[u8], at: usize) -> Result<usize, Stop>
+    ensures { IfErr result (Stops text.now) }
+{
     match text.get(at) {
         Some(b'"') => string_end(text, at),
         Some(b't') => word_end(text, at, b"true"),
@@ -94,7 +125,9 @@ fn scalar_end(text: &[u8], at: usize) -> Result<usize, usize> {
     }
 }
 
-fn string_end(text: &[u8], from: usize) -> Result<usize, usize> {
+fn string_end(text: &[u8], from: usize) -> Result<usize, Stop>
+    ensures { IfErr result (Stops text.now) }
+{
     let mut next = from.saturating_add(1);
     for at in from..text.len() {
         if at < next {
@@ -103,53 +136,88 @@ fn string_end(text: &[u8], from: usize) -> Result<usize, usize> {
         match text[at] {
             b'"' => return Ok(at + 1),
             b'\\' => next = escape_end(text, at)?,
-            0..=31 => return Err(at),
+            0..=31 => return Err(no_json(at)),
             _ => {}
         }
     }
-    Err(text.len())
+    Err(no_json(text.len()))
 }
 
-fn escape_end(text: &[u8], at: usize) -> Result<usize, usize> {
+fn escape_end(text: &[u8], at: usize) -> Result<usize, Stop>
+    ensures { IfErr result (Stops text.now) }
+{
     match text.get(at.saturating_add(1)) {
         Some(b'u') => character_end(text, at),
         Some(b'"' | b'\\' | b'/' | b'b' | b'f' | b'n' | b'r' | b't') => Ok(at.saturating_add(2)),
-        _ => Err(at.saturating_add(1)),
+        _ => Err(no_json(at.saturating_add(1))),
     }
+}
+
+/// Half of a character by its number, from `d800` on the first and from `dc00` on the second.
+#[derive(Clone, Copy, PartialEq, Eq)]
+enum Half {
+    First,
+    Second,
 }
 
 /// The end of a character by its number, or by both halves of it. A half alone is none where it begins.
-fn character_end(text: &[u8], at: usize) -> Result<usize, usize> {
-    let high = number_at(text, at)?;
-    let end = at.saturating_add(6);
-    if !(0xd800..0xe000).contains(&high) {
+fn character_end(text: &[u8], at: usize) -> Result<usize, Stop>
+    ensures { IfErr result (Stops text.now) }
+{
+    let end = code_end(text, at)?;
+    let Some(half) = half_of(rest_of(text, at)) else {
         return Ok(end);
-    }
-    match number_at(text, end) {
-        Ok(low) if high < 0xdc00 && (0xdc00..0xe000).contains(&low) => Ok(end.saturating_add(6)),
-        Err(place) if high < 0xdc00 && place >= text.len() => Err(place),
-        _ => Err(at),
+    };
+    match code_end(text, end) {
+        Ok(other) if half == Half::First && half_of(rest_of(text, end)) == Some(Half::Second) => {
+            Ok(other)
+        }
+        Err(stop) if half == Half::First && stop.at >= text.len() => Err(stop),
+        _ => Err(Stop {
+            at,
+            reason: Reason::HalfCharacter,
+        }),
     }
 }
 
-/// The number of four hexadecimal digits behind `\u`.
-fn number_at(text: &[u8], at: usize) -> Result<u32, usize> {
+/// Which half of a character some bytes begin with by its number, if with one.
+fn half_of(bytes: &[u8]) -> Option<Half>
+    ensures { IfSome result (λ _. IsHalf bytes.now) }
+{
+    match bytes {
+        [
+            b'\\',
+            b'u',
+            b'd' | b'D',
+            b'8' | b'9' | b'a' | b'b' | b'A' | b'B',
+            ..
+        ] => Some(Half::First),
+        [b'\\', b'u', b'd' | b'D', b'c'..=b'f' | b'C'..=b'F', ..] => Some(Half::Second),
+        _ => None,
+    }
+}
+
+/// The end of `\u` and four hexadecimal digits.
+fn code_end(text: &[u8], at: usize) -> Result<usize, Stop>
+    ensures { IfErr result (Stops text.now) }
+{
     let start = word_end(text, at, b"\\u")?;
-    let mut number = 0u32;
-    for place in start..start.saturating_add(4) {
-        let digit = text
-            .get(place)
-            .and_then(|byte| char::from(*byte).to_digit(16));
-        number = number << 4 | digit.ok_or(place)?;
+    let end = start.saturating_add(4);
+    for place in start..end {
+        if !text.get(place).is_some_and(|byte| byte.is_ascii_hexdigit()) {
+            return Err(no_json(place));
+        }
     }
-    Ok(number)
+    Ok(end)
 }
 
-fn word_end(text: &[u8], at: usize, word: &[u8]) -> Result<usize, usize> {
+fn word_end(text: &[u8], at: usize, word: &[u8]) -> Result<usize, Stop>
+    ensures { IfErr result (Stops text.now) }
+{
     let mut end = at;
     for byte in word {
         if text.get(end) != Some(byte) {
-            return Err(end);
+            return Err(no_json(end));
         }
         end = end.saturating_add(1);
     }
@@ -157,35 +225,93 @@ fn word_end(text: &[u8], at: usize, word: &[u8]) -> Result<usize, usize> {
 }
 
 /// A number that is too large for a float is none where it ends.
-fn number_end(text: &[u8], from: usize) -> Result<usize, usize> {
-    let mut end = from;
-    if text.get(end) == Some(&b'-') {
-        end = end.saturating_add(1);
-    }
-    end = match text.get(end) {
-        Some(b'0') => end.saturating_add(1),
-        _ => digits_end(text, end)?,
-    };
-    if text.get(end) == Some(&b'.') {
-        end = digits_end(text, end.saturating_add(1))?;
-    }
-    if matches!(text.get(end), Some(b'e' | b'E')) {
-        let signed = matches!(text.get(end.saturating_add(1)), Some(b'+' | b'-'));
-        end = digits_end(text, end.saturating_add(if signed { 2 } else { 1 }))?;
-    }
-    let number = text
-        .get(from..end)
-        .and_then(|digits| str::from_utf8(digits).ok());
-    match number.and_then(|number| number.parse::<f64>().ok()) {
+fn number_end(text: &[u8], from: usize) -> Result<usize, Stop>
+    ensures { IfErr result (Stops text.now) }
+{
+    let end = number_form_end(text, from)?;
+    match float_of(text, from, end) {
         Some(number) if number.is_finite() => Ok(end),
-        _ => Err(end.saturating_sub(1)),
+        Some(_) => Err(Stop {
+            at: end.saturating_sub(1),
+            reason: Reason::TooLarge,
+        }),
+        None => Err(no_json(end.saturating_sub(1))),
     }
 }
 
-fn digits_end(text: &[u8], from: usize) -> Result<usize, usize> {
-    let rest = text.get(from..).unwrap_or(&[]);
-    match rest.iter().take_while(|byte| byte.is_ascii_digit()).count() {
-        0 => Err(from),
-        count => Ok(from.saturating_add(count)),
+/// The float nearest to the number that stands between two places.
+fn float_of(text: &[u8], from: usize, end: usize) -> Option<f64>
+    ensures { IfSome result (λ number. parse_float binary64 (take (end - from) (drop from text.now)) ≡ Some number) }
+{
+    let number = text.get(from..end)?;
+    str::from_utf8(number).ok()?.parse::<f64>().ok()
+}
+
+/// The end of a number by its form.
+fn number_form_end(text: &[u8], from: usize) -> Result<usize, Stop>
+    ensures err { IfErr result (Stops text.now) }
+    ensures digit { IfOk result (EndsInDigit text.now) }
+{
+    let start = if text.get(from) == Some(&b'-') {
+        from.saturating_add(1)
+    } else {
+        from
+    };
+    let whole = whole_end(text, start)?;
+    let fraction = fraction_end(text, whole)?;
+    exponent_end(text, fraction)
+}
+
+fn whole_end(text: &[u8], from: usize) -> Result<usize, Stop>
+    ensures err { IfErr result (Stops text.now) }
+    ensures digit { IfOk result (EndsInDigit text.now) }
+{
+    match text.get(from) {
+        Some(b'0') => Ok(from + 1),
+        _ => digits_end(text, from),
     }
+}
+
+/// The end of the fraction that begins at a place, or that place where none does.
+fn fraction_end(text: &[u8], from: usize) -> Result<usize, Stop>
+    requires { EndsInDigit text.now from }
+    ensures err { IfErr result (Stops text.now) }
+    ensures digit { IfOk result (EndsInDigit text.now) }
+{
+    match text.get(from) {
+        Some(b'.') => digits_end(text, from.saturating_add(1)),
+        _ => Ok(from),
+    }
+}
+
+/// The end of the exponent that begins at a place, or that place where none does.
+fn exponent_end(text: &[u8], from: usize) -> Result<usize, Stop>
+    requires { EndsInDigit text.now from }
+    ensures err { IfErr result (Stops text.now) }
+    ensures digit { IfOk result (EndsInDigit text.now) }
+{
+    if !matches!(text.get(from), Some(b'e' | b'E')) {
+        return Ok(from);
+    }
+    let signed = matches!(text.get(from.saturating_add(1)), Some(b'+' | b'-'));
+    digits_end(text, from.saturating_add(if signed { 2 } else { 1 }))
+}
+
+fn digits_end(text: &[u8], from: usize) -> Result<usize, Stop>
+    ensures err { IfErr result (Stops text.now) }
+    ensures digit { IfOk result (EndsInDigit text.now) }
+{
+    let digits = rest_of(text, from).iter();
+    let count = digits.take_while(|byte| byte.is_ascii_digit()).count();
+    if count == 0 {
+        return Err(no_json(from));
+    }
+    Ok(from.saturating_add(count))
+}
+
+/// A text from a place on.
+fn rest_of(text: &[u8], from: usize) -> &[u8]
+    ensures { result.now ≡ drop from text.now }
+{
+    text.get(from..).unwrap_or(&[])
 }

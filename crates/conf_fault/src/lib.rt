@@ -15,6 +15,7 @@ mod path;
 mod shown;
 mod sizes;
 mod source;
+mod stop;
 
 pub use explanation::explain_fault;
 pub use line_column::LineColumn;

@@ -1,12 +1,14 @@
 //! Where a text stops being JSON, and whether it looks like YAML.
 
-ghost use Rattle.std.specs.Prelude.{◌≡◌, ◌≤◌, ◌++◌, List, ℕ, drop, length, encode_utf8, IfOk, IfSome, OnOk, string_bytes};
+ghost use Rattle.std.specs.Prelude.{◌≡◌, ◌++◌, List, ℕ, encode_utf8, IfOk, IfSome, OnOk, string_bytes};
 ghost use Rattle.conf_fault.specs.LineColumn.{IsPlaceIn};
 ghost use Rattle.conf_fault.specs.Explanation.{Adds, IsFoundWords, IsNotJson, character_words};
+ghost use Rattle.conf_fault.specs.Stop.{IsStop};
 
 use crate::json_front::longest_front;
 use crate::line_column::{LineColumn, line_column, push_place};
 use crate::source::Source;
+use crate::stop::{Stop, push_reason};
 use std::alloc::{AllocError, Global};
 use std::str;
 
@@ -14,11 +16,12 @@ use std::str;
 pub(crate) fn push_not_json(source: Source<'_>, said: &mut String) -> Result<(), AllocError>
     ensures { OnOk result (Adds (IsNotJson source.entry.text.now) (string_bytes said.old) (string_bytes said.new)) }
 {
-    let at = front_length(source.alloc, source.text)?;
-    push_place(source.alloc, said, line_column(source.text, at))?;
+    let stop = json_end(source.alloc, source.text)?;
+    push_place(source.alloc, said, line_column(source.text, stop.at))?;
     said.push_str("not JSON: found ")?;
-    push_found(said, &source.text[at..])?;
-    said.push_str(": expected one JSON value in UTF-8")?;
+    push_found(said, &source.text[stop.at..])?;
+    said.push_str(": expected ")?;
+    push_reason(source.alloc, said, stop.reason)?;
     if !looks_like_yaml(source.text) {
         return Ok(());
     }
@@ -32,12 +35,12 @@ pub(crate) fn push_not_json(source: Source<'_>, said: &mut String) -> Result<(),
 pub fn json_place(alloc: Global, text: &[u8]) -> Result<LineColumn, AllocError>
     ensures { IfOk result (IsPlaceIn text.now) }
 {
-    let at = front_length(alloc, text)?;
-    Ok(line_column(text, at))
+    let stop = json_end(alloc, text)?;
+    Ok(line_column(text, stop.at))
 }
 
-fn front_length(alloc: Global, text: &[u8]) -> Result<usize, AllocError>
-    ensures { IfOk result (λ at. at ≤ length text.now) }
+fn json_end(alloc: Global, text: &[u8]) -> Result<Stop, AllocError>
+    ensures { IfOk result (IsStop text.now) }
 {
     let readable = match str::from_utf8(text) {
         Ok(_) => text.len(),

@@ -1,7 +1,7 @@
 use Rattle.std.proofs.Common.{◌≡◌, ℕ, List, refl, string_bytes, subst}
 use Rattle.std.specs.Prelude.{OnOk, Some}
 use Rattle.conf_fault.specs.Explanation.{Adds}
-use Rattle.conf_fault.specs.Wanted.{IsKnownName, IsOneOf, IsToldOfKind, alias_map, alias_thing, limit_words, names_of}
+use Rattle.conf_fault.specs.Wanted.{IsKnownName, IsOneOf, IsToldOfKind, alias_map, alias_thing, identifier_words, limit_words, names_of}
 use Rattle.conf_fault.specs.Found.{data_of, end_of}
 use Rattle.conf_fault.proofs.WantedLemmas.{adds_same, told_of_others}
 use Rattle.conf_fault.proofs.by_kind.push_told_of_kind.Goals as goal
@@ -16,6 +16,10 @@ returns-in-Unknown c =
 pub returns-in-OutOfRange : goal.returns-in-OutOfRange
 unfolding IsToldOfKind
 returns-in-OutOfRange c = rw c.in-OutOfRange.is c.push_in_range.ensures
+
+pub returns-in-BadName : goal.returns-in-BadName
+unfolding IsToldOfKind
+returns-in-BadName c = rw c.in-BadName.is (adds_same c.push_identifier.result (λ (said : List ℕ). said ≡ identifier_words) _ _ _ refl c.push_identifier.ensures)
 
 pub returns-in-NoSuchAlias : goal.returns-in-NoSuchAlias
 unfolding IsToldOfKind
@@ -41,5 +45,5 @@ returns-in-Limit c =
 pub returns-in_default : goal.returns-in_default
 returns-in_default c =
     adds_same c.push_expected.result (IsToldOfKind c.args.found.now.source.text.now c.args.kind c.args.path.now (end_of c.args.found.now)) _ _ _
-    (told_of_others _ _ _ _ _ c.in_default.not-Unknown c.in_default.not-OutOfRange c.in_default.not-NoSuchAlias c.in_default.not-NoClock c.in_default.not-FieldTooSmall c.in_default.not-Limit refl)
+    (told_of_others _ _ _ _ _ c.in_default.not-Unknown c.in_default.not-OutOfRange c.in_default.not-BadName c.in_default.not-NoSuchAlias c.in_default.not-NoClock c.in_default.not-FieldTooSmall c.in_default.not-Limit refl)
     c.push_expected.ensures
