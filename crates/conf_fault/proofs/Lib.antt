@@ -6,3 +6,4 @@ pub mod StopLemmas
 pub mod WantedLemmas
 pub mod WorkedNearest
 pub mod WorkedReasons
+pub mod WrittenLemmas

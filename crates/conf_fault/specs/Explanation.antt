@@ -1,6 +1,6 @@
 -- The explanation of a configuration's fault: where it stands in the text, the way to it, what stands there, and what was expected. Whatever it
 -- shows of the configuration, it stays on one line.
-use Rattle.std.specs.Prelude.{◌≡◌, ◌⊎◌, List, [], ◌∷◌, ◌++◌, ℕ, Option, Some, None, MatchOption, if◌then◌else◌, ◌==◌, codes, drop, encode_utf8, string_bytes, decimal}
+use Rattle.std.specs.Prelude.{◌≡◌, ◌⊎◌, List, [], ◌∷◌, ◌++◌, ℕ, Option, Some, None, MatchOption, if◌then◌else◌, ◌==◌, codes, drop, encode_utf8, string_bytes, decimal, take}
 use Rattle.std.specs.List.{flat_map}
 use Rattle.conf_tree.specs.declared.step.Step.{Step}
 use Rattle.conf_tree.specs.declared.step.Step.TheVariants.{Key, Index}
@@ -9,11 +9,14 @@ use Rattle.conf_tree.specs.declared.fault_kind.FaultKind.{FaultKind}
 use Rattle.conf_tree.specs.declared.fault_kind.FaultKind.TheVariants.{NotJson, TooDeep, Unknown, InheritCycle, BadName, ReservedName, NameClash, ZeroSizeRecord, TwoOrders, OutOfMemory}
 use Rattle.conf_tree.specs.declared.limits.TheConstants.{MAX_LEVELS}
 use Rattle.conf_fault.specs.declared.line_column.LineColumn.{LineColumn}
-use Rattle.conf_fault.specs.LineColumn.{IsPlaceAt, IsPlaceIn}
+use Rattle.conf_fault.specs.LineColumn.{IsPlaceAt}
 use Rattle.conf_fault.specs.declared.stop.Reason.{Reason}
 use Rattle.conf_fault.specs.Shown.{cut, shown}
 use Rattle.conf_fault.specs.Stop.{HasReason, reason_words}
 use Rattle.conf_fault.specs.Wanted.{IsToldAndHinted}
+use Rattle.conf_fault.specs.Written.{closed_up}
+use Rattle.conf_tree.specs.Walk.{Reads}
+use Rattle.serde_json.specs.Data.{Data}
 
 -- words of this kind are added
 abbrev pub Adds : (List ℕ → Type 0) → List ℕ → List ℕ → Type 0
@@ -24,10 +27,6 @@ Adds Is old new = (words : List ℕ) × Is words × (new ≡ old ++ words)
 -- `line 2, column 9: `
 abbrev pub place_words : LineColumn → List ℕ
 place_words place = codes "line " ++ decimal place.line ++ codes ", column " ++ decimal place.column ++ codes ": "
-
--- the place of a byte of the text, or of its end
-abbrev pub IsPlaceWords : List ℕ → List ℕ → Type 0
-IsPlaceWords text words = (place : LineColumn) × IsPlaceIn text place × (words ≡ place_words place)
 
 -- a step: a name, or an index
 abbrev pub step_words : Step → List ℕ
@@ -56,20 +55,24 @@ name_words ReservedName = Some (codes "reserved word")
 name_words NameClash = Some (codes "name is taken")
 name_words _ = None
 
--- a value or a name
-abbrev pub IsWritten : List ℕ → Type 0
-IsWritten words = (value : List ℕ) × (words ≡ cut value)
+-- the bytes of a JSON value, or of a name, that begin at the place, without the white space between their parts
+abbrev pub IsClosedUp : List ℕ → ℕ → List ℕ → Type 0
+IsClosedUp text at words = (count : ℕ) × (value : Data) × Reads (take count (drop at text)) value × (words ≡ closed_up (take count (drop at text)))
 
--- the name of an alias, and the value that it stands for
-abbrev pub IsNamedValue : List ℕ → Type 0
-IsNamedValue words = (name : List ℕ) × (value : List ℕ) × IsWritten name × IsWritten value × (words ≡ name ++ codes ", which is " ++ value)
+-- what begins at the place, cut; where no value begins by itself, that it is one
+abbrev pub IsWritten : List ℕ → ℕ → List ℕ → Type 0
+IsWritten text at words = (words ≡ codes "a value") ⊎ ((value : List ℕ) × IsClosedUp text at value × (words ≡ cut value))
+
+-- the name of an alias, which begins at the place, and the value that it stands for, which stands elsewhere
+abbrev pub IsNamedValue : List ℕ → ℕ → List ℕ → Type 0
+IsNamedValue text at words = (other : ℕ) × (name : List ℕ) × (value : List ℕ) × IsWritten text at name × IsWritten text other value × (words ≡ name ++ codes ", which is " ++ value)
 
 -- nothing, a value, or an alias that does not fit
-abbrev pub IsValueWords : List ℕ → Type 0
-IsValueWords words = (words ≡ codes "missing") ⊎ (IsWritten words ⊎ IsNamedValue words)
+abbrev pub IsValueWords : List ℕ → ℕ → List ℕ → Type 0
+IsValueWords text at words = (words ≡ codes "missing") ⊎ (IsWritten text at words ⊎ IsNamedValue text at words)
 
-abbrev pub IsStanding : FaultKind → List ℕ → Type 0
-IsStanding kind words = MatchOption (name_words kind) (IsValueWords words) (λ said. words ≡ said)
+abbrev pub IsStanding : FaultKind → List ℕ → ℕ → List ℕ → Type 0
+IsStanding kind text at words = MatchOption (name_words kind) (IsValueWords text at words) (λ said. words ≡ said)
 
 -- ---- what was expected
 
@@ -92,17 +95,18 @@ IsWanted text fault words = MatchOption (fixed_words fault.kind) (IsToldAndHinte
 
 -- ---- the whole
 
--- a fault that has a place in the text
+-- a fault that has a place in the text, at which what is shown begins
 pub record IsPlaced (text : List ℕ) (fault : ConfFault) (said : List ℕ) : Type 0 where
-  pub place : List ℕ
+  pub at : ℕ
+  pub place : LineColumn
   pub alias : List ℕ
   pub standing : List ℕ
   pub wanted : List ℕ
-  pub lies : IsPlaceWords text place
+  pub lies : IsPlaceAt text at place
   pub in_alias : IsAliasWords alias
-  pub stands : IsStanding fault.kind standing
+  pub stands : IsStanding fault.kind text at standing
   pub expects : IsWanted text fault wanted
-  pub is : said ≡ place ++ path_words fault.path ++ alias ++ standing ++ codes ": expected " ++ wanted
+  pub is : said ≡ place_words place ++ path_words fault.path ++ alias ++ standing ++ codes ": expected " ++ wanted
 
 -- a hint where it looks like YAML
 abbrev pub IsYamlHint : List ℕ → Type 0

@@ -6,3 +6,4 @@ pub mod Names
 pub mod Shown
 pub mod Stop
 pub mod Wanted
+pub mod Written

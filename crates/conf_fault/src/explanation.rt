@@ -44,11 +44,11 @@ fn push_placed(source: Source<'_>, said: &mut String, fault: &ConfFault) -> Resu
     let tree = source.tree()?;
     let found = source.find(tree.as_ref(), fault.path.as_slice())?;
     let layer = found.used_name(fault.kind).unwrap_or(found.layer());
-    let at = place_at_fault(&found, layer, fault);
+    let at = place_at_fault(&found, layer, fault).min(source.text.len());
     push_place(source.alloc, said, line_column(source.text, at))?;
     push_path(source.alloc, said, fault.path.as_slice())?;
     push_alias(source, said, layer.alias)?;
-    push_standing(said, &found, fault)?;
+    push_standing(said, &found, fault.kind, at)?;
     said.push_str(": expected ")?;
     said.push_str(wanted_words(&found, fault)?.as_str())
 }
@@ -90,26 +90,35 @@ fn push_alias(source: Source<'_>, said: &mut String, alias: Option<usize>) -> Re
     said.push_str("`: ")
 }
 
-fn push_standing(said: &mut String, found: &Found<'_>, fault: &ConfFault) -> Result<(), AllocError>
-    ensures { OnOk result (Adds (IsStanding fault.now.kind) (string_bytes said.old) (string_bytes said.new)) }
+fn push_standing(
+    said: &mut String,
+    found: &Found<'_>,
+    kind: FaultKind,
+    at: usize,
+) -> Result<(), AllocError>
+    ensures { OnOk result (Adds (IsStanding kind found.now.source.text.now at) (string_bytes said.old) (string_bytes said.new)) }
 {
-    match name_words(fault.kind) {
+    match name_words(kind) {
         Some(words) => said.push_str(words),
-        None => push_value(said, found, fault),
+        None => push_value(said, found, kind, at),
     }
 }
 
-/// Adds what stands there: the value, a label that is at fault, or the name of an alias and what it is.
-fn push_value(said: &mut String, found: &Found<'_>, fault: &ConfFault) -> Result<(), AllocError>
-    ensures { OnOk result (Adds IsValueWords (string_bytes said.old) (string_bytes said.new)) }
+/// Adds what stands at the fault's place: the value, a label that is at fault, or the name of an alias and what it is.
+fn push_value(
+    said: &mut String,
+    found: &Found<'_>,
+    kind: FaultKind,
+    at: usize,
+) -> Result<(), AllocError>
+    ensures { OnOk result (Adds (IsValueWords found.now.source.text.now at) (string_bytes said.old) (string_bytes said.new)) }
 {
     if !found.is_there {
         return said.push_str("missing");
     }
-    let layer = found.layer();
-    match found.used_name(fault.kind) {
-        Some(name) => push_named(said, found.source, name.at, layer.at),
-        None => push_written(said, found.source, place_at_fault(found, layer, fault)),
+    match found.used_name(kind) {
+        Some(_) => push_named(said, found.source, at, found.layer().at),
+        None => push_written(said, found.source, at),
     }
 }
 
@@ -120,7 +129,7 @@ fn push_named(
     name: usize,
     at: usize,
 ) -> Result<(), AllocError>
-    ensures { OnOk result (Adds IsNamedValue (string_bytes said.old) (string_bytes said.new)) }
+    ensures { OnOk result (Adds (IsNamedValue source.entry.text.now name) (string_bytes said.old) (string_bytes said.new)) }
 {
     push_written(said, source, name)?;
     said.push_str(", which is ")?;
@@ -129,11 +138,11 @@ fn push_named(
 
 /// Adds the value or the name that begins at a place, as it is written.
 fn push_written(said: &mut String, source: Source<'_>, at: usize) -> Result<(), AllocError>
-    ensures { OnOk result (Adds IsWritten (string_bytes said.old) (string_bytes said.new)) }
+    ensures { OnOk result (Adds (IsWritten source.entry.text.now at) (string_bytes said.old) (string_bytes said.new)) }
 {
     match source.written(at)? {
         Some(value) => push_cut(said, value.as_str()),
-        None => push_cut(said, "a value"),
+        None => said.push_str("a value"),
     }
 }
 

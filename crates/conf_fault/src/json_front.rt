@@ -35,6 +35,15 @@ impl Before {
         }
     }
 
+    /// What a text, a number or a word is behind this, in an object or not.
+    fn scalar(self, in_object: bool) -> Before {
+        if in_object && self.takes_name() {
+            Before::Name
+        } else {
+            Before::Value
+        }
+    }
+
     /// Whether the object or list can end.
     fn ends(self) -> bool {
         matches!(self, Before::Value | Before::Mark(b'{' | b'['))
@@ -64,7 +73,7 @@ pub(crate) fn longest_front(alloc: Global, text: &[u8]) -> Result<Stop, AllocErr
                         reason: Reason::TooDeep,
                     });
                 }
-                closing.push(if byte == b'{' { b'}' } else { b']' })?;
+                closing.push(closing_of(byte))?;
                 Before::Mark(byte)
             }
             b'}' | b']' if closing.last() == Some(&byte) && before.ends() => {
@@ -78,16 +87,17 @@ pub(crate) fn longest_front(alloc: Global, text: &[u8]) -> Result<Stop, AllocErr
                     Ok(end) => next = end,
                     Err(stop) => return Ok(within(text, stop)),
                 }
-                if takes_name {
-                    Before::Name
-                } else {
-                    Before::Value
-                }
+                before.scalar(in_object)
             }
             _ => return Ok(no_json(at)),
         };
     }
     Ok(no_json(text.len()))
+}
+
+/// The bracket that closes what this one opens.
+fn closing_of(bracket: u8) -> u8 {
+    if bracket == b'{' { b'}' } else { b']' }
 }
 
 /// Where no JSON value goes on so.
@@ -101,7 +111,7 @@ fn no_json(at: usize) -> Stop
     }
 }
 
-/// The same, at the text's end where the place is behind it.
+/// The stop, at the text's end where its place is behind it.
 fn within(text: &[u8], stop: Stop) -> Stop
     requires { Stops text.now stop }
     ensures { IsStop text.now result }

@@ -16,6 +16,7 @@ mod shown;
 mod sizes;
 mod source;
 mod stop;
+mod written;
 
 pub use explanation::explain_fault;
 pub use line_column::LineColumn;

@@ -1,12 +1,14 @@
 //! The text of a configuration, by the places of its values.
 
-ghost use Rattle.std.specs.Prelude.{◌≤◌, ℕ, drop, length, take, IfOk, IfSome, option_map, string_bytes};
+ghost use Rattle.std.specs.Prelude.{◌≡◌, ◌≤◌, ℕ, drop, length, take, IfOk, IfSome, option_map, string_bytes};
 ghost use Rattle.serde_json.specs.View.{view};
 ghost use Rattle.conf_tree.specs.Walk.{Reads};
 ghost use Rattle.conf_fault.specs.Found.{StandsIn};
 ghost use Rattle.conf_fault.specs.Names.{IsRead};
+ghost use Rattle.conf_fault.specs.Explanation.{IsClosedUp};
 
 use crate::layers::Layer;
+use crate::written::closed_up;
 use serde_json::Value;
 use std::alloc::{AllocError, Global};
 use std::str;
@@ -41,39 +43,36 @@ impl<'t> Source<'t> {
         }
     }
 
+    /// The bytes of the value that begins at a place.
+    fn value_at(&self, at: usize) -> Source<'t>
+        ensures { (count : ℕ) × (result.text.now ≡ take count (drop at self.now.text.now)) }
+    {
+        let text = self.text.get(at..).unwrap_or(&[]);
+        Source {
+            text: &text[..value_length(text)],
+            ..*self
+        }
+    }
+
     /// The value that begins at a place.
     pub(crate) fn value_of(&self, at: usize) -> Result<Option<Value>, AllocError>
         ensures { IfOk result (λ found. IfSome found (λ value. (count : ℕ) × Reads (take count (drop at self.now.text.now)) (view value))) }
     {
-        let Some(text) = self.text.get(at..) else {
-            return Ok(None);
-        };
-        let value = Source {
-            text: &text[..value_length(text)],
-            ..*self
-        };
-        value.tree()
+        self.value_at(at).tree()
     }
 
     /// The value at a place as it is written, without the white space between its parts.
-    pub(crate) fn written(&self, at: usize) -> Result<Option<String>, AllocError> {
-        let text = self.text.get(at..).unwrap_or(&[]);
-        let value = str::from_utf8(&text[..value_length(text)]).unwrap_or("");
-        if value.is_empty() {
+    pub(crate) fn written(&self, at: usize) -> Result<Option<String>, AllocError>
+        ensures { IfOk result (λ found. IfSome found (λ words. IsClosedUp self.now.text.now at (string_bytes words))) }
+    {
+        let value = self.value_at(at);
+        if value.tree()?.is_none() {
             return Ok(None);
         }
-        let mut written = String::new(self.alloc);
-        let mut quoted = false;
-        let mut escaped = false;
-        for character in value.chars() {
-            if !quoted && matches!(character, ' ' | '\t' | '\n' | '\r') {
-                continue;
-            }
-            quoted ^= character == '"' && !escaped;
-            escaped = quoted && character == '\\' && !escaped;
-            written.push(character)?;
+        match str::from_utf8(value.text) {
+            Ok(text) => Ok(Some(closed_up(self.alloc, text)?)),
+            Err(_) => Ok(None),
         }
-        Ok(Some(written))
     }
 
     /// The text that the value at a place is.

@@ -1,8 +1,8 @@
-use Rattle.std.proofs.Common.{◌++◌, List, string_bytes, refl, ◌∙◌, ap, sym, subst}
+use Rattle.std.proofs.Common.{◌++◌, List, string_bytes, refl, ◌∙◌, ap, arith, sym, subst}
 use Rattle.std.specs.Prelude.{codes, option_map}
 use Rattle.serde_json.specs.View.{view}
 use Rattle.conf_tree.specs.declared.step.Step.{Step}
-use Rattle.conf_fault.specs.Explanation.{IsPlaced, IsWanted, path_words, place_words}
+use Rattle.conf_fault.specs.Explanation.{IsPlaced, IsStanding, IsWanted, path_words, place_words}
 use Rattle.conf_fault.specs.Found.{Leads, data_of, end_of, outermost}
 use Rattle.conf_fault.specs.Names.{IsRead}
 use Rattle.conf_fault.specs.Wanted.{IsEnd}
@@ -34,13 +34,14 @@ returns c =
     added (IsPlaced c.args.source.text.now fault) _ _ _ _ _ _ _
     (behind _ _ _ (place ++ path ++ alias.0 ++ standing.0) (codes ": expected ") behind_standing c.in_ok-push_str.ensures.bytes) c.push_str-2.ensures.bytes refl
     (record {
-      place = place;
+      at = c.min-at.result;
+      place = c.line_column.result;
       alias = alias.0;
       standing = standing.0;
       wanted = c.as_str.result.now;
-      lies = (c.line_column.result, c.line_column.ensures.lies, refl);
+      lies = (omega (arith, c.min-at.ensures), c.line_column.ensures.line, c.line_column.ensures.column);
       in_alias = alias.1;
-      stands = standing.1;
+      stands = subst (λ (s : Source). IsStanding fault.kind s.text.now c.min-at.result standing.0) c.in_ok-found.ensures.source standing.1;
       expects = subst (IsWanted c.args.source.text.now fault) (sym c.as_str.ensures.value) (subst (λ (s : Source). IsWanted s.text.now fault (string_bytes c.in_ok-wanted_words.field-0)) c.in_ok-found.ensures.source c.in_ok-wanted_words.ensures);
       is = refl;
     })
