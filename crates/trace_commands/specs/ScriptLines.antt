@@ -2,7 +2,9 @@
 use Rattle.std.specs.Prelude.{◌≡◌, ◌⊎◌, ℕ, List, [], ◌++◌, Some, codes, slice_get}
 use Rattle.std.specs.Fmt.{decimal}
 use Rattle.serde_json.specs.Data.{Data}
-use Rattle.conf_fault.specs.Explanation.{IsPlaceWords}
+use Rattle.conf_fault.specs.declared.line_column.LineColumn.{LineColumn}
+use Rattle.conf_fault.specs.Explanation.{place_words}
+use Rattle.conf_fault.specs.LineColumn.{IsPlaceIn}
 use Rattle.conf_fault.specs.Shown.{cut}
 use Rattle.conf_tree.specs.Walk.{Reads}
 use Rattle.ctf_types.specs.declared.Config.{Config}
@@ -49,9 +51,13 @@ begin_words fault = add_words fault ++ size_hint fault
 
 -- ---- a text that is no script
 
+-- the line and the column of a byte of the text, or of its end
+abbrev pub IsPosition : List ℕ → List ℕ → Type 0
+IsPosition text words = (place : LineColumn) × IsPlaceIn text place × (words ≡ place_words place)
+
 -- what is wrong, behind a line and a column of the text
 abbrev pub SaysPosition : List ℕ → ScriptFaultKind → List ℕ → Type 0
-SaysPosition text kind said = (position : List ℕ) × IsPlaceWords text position × (said ≡ position ++ kind_words kind)
+SaysPosition text kind said = (position : List ℕ) × IsPosition text position × (said ≡ position ++ kind_words kind)
 
 -- what is wrong, between what stands there and the names that there are, or else the property at which an object is of another form
 abbrev pub TellsKind : ScriptFaultKind → List ℕ → Type 0
