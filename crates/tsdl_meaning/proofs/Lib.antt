@@ -6,6 +6,7 @@ pub mod DistinctKeys
 pub mod ElementCounts
 pub mod MemberNames
 pub mod NumberOrder
+pub mod SortedNumbers
 pub mod GoodAtoms
 pub mod AllowedTypes
 pub mod AllowedText

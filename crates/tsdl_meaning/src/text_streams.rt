@@ -27,7 +27,7 @@ pub(crate) fn streams_meaning(
     ensures { IfOk result (λ ss. ss ≡ streams_meaning known.now blocks.now) }
 {
     let found = meant!(streams_found(alloc, known, blocks)?);
-    let streams = meant!(by_number(alloc, found)?);
+    let streams = meant!(by_number(found));
     let events = meant!(events_found(alloc, known, blocks)?);
     holds!(have_streams(alloc, streams.as_slice(), events.as_slice())?);
     let groups = groups_of(alloc, events)?;
@@ -143,20 +143,20 @@ fn streams_with(alloc: Global, groups: Groups, streams: ListOf<Stream>) -> Meant
     let mut left = streams.into_vec();
     left.reverse();
     while let Some(stream) = left.pop() {
-        made.push(meant!(with_group(alloc, &mut left_groups, stream)?))?;
+        made.push(meant!(with_group(alloc, &mut left_groups, stream)))?;
         left.shrink_to_fit();
     }
     Ok(Some(made))
 }
 
 /// A stream with the events of its group, by number, which are taken out of the groups.
-fn with_group(alloc: Global, groups: &mut Groups, mut stream: Stream) -> Meant<Stream>
-    ensures made { IfOk result (λ s. s ≡ with_group groups.old stream) }
+fn with_group(alloc: Global, groups: &mut Groups, mut stream: Stream) -> Option<Stream>
+    ensures made { result ≡ with_group groups.old stream }
     ensures others { OthersStay stream.id groups.old groups.new }
 {
     let own = take_group(alloc, groups, stream.id);
-    stream.events = meant!(by_number(alloc, own)?);
-    Ok(Some(stream))
+    stream.events = by_number(own)?;
+    Some(stream)
 }
 
 /// The events of the stream of this number, which are taken out of the groups.

@@ -10,6 +10,6 @@ loop-stream-init c =
 pub loop-stream-preserved : goal.loop-stream-preserved
 loop-stream-preserved c =
     rw c.shrink_to_fit.ensures.items
-    (one_more_stream c.args.groups c.loop-stream.left_groups c.with_group.new.groups c.loop-stream.left.items c.pop.new.self.items c.in-Some.stream c.in-Some-2.meaning c.loop-stream.made c.push.new.self
-    (each (with_group c.args.groups) c.args.streams) c.in-Some.ensures.items (sym c.in-Some-2.is ∙ c.in_ok-meaning.ensures.made) c.with_group.ensures.others c.in_ok-push.ensures.ok
+    (one_more_stream c.args.groups c.loop-stream.left_groups c.with_group.new.groups c.loop-stream.left.items c.pop.new.self.items c.in-Some.stream c.in-Some-with_group.meaning c.loop-stream.made c.push.new.self
+    (each (with_group c.args.groups) c.args.streams) c.in-Some.ensures.items (sym c.in-Some-with_group.is ∙ c.with_group.ensures.made) c.with_group.ensures.others c.in_ok-push.ensures.ok
     c.loop-stream.invariant)
