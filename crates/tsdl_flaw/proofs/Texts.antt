@@ -1,6 +1,6 @@
 -- A fault in the front of a text is a fault of the text.
 use native.Mathlib.Omega.{arith}
-use Rattle.std.proofs.Common.{◌≡◌, ℕ, suc, ◌+◌, ◌<◌, ◌≤◌, List, [], ◌∷◌, ◌++◌, length, drop, take, get_or, slice_get, Some, sym, ap, ◌∙◌, subst, append_assoc, length-append}
+use Rattle.std.proofs.Common.{◌≡◌, ℕ, suc, ◌+◌, ◌<◌, ◌≤◌, List, [], ◌∷◌, ◌++◌, length, drop, take, get_or, slice_get, Some, sym, ap, ◌∙◌, subst, inl, inr, append_assoc, length-append}
 use Rattle.std.proofs.lemmas.Option.{slice_get_within, get_or_from_slice_get}
 use Rattle.std.proofs.lemmas.List.{take-append-drop, take-append-le, length-take-le, take-take}
 use Rattle.std.proofs.Math.Seq.{drop-cons, take-append_seam}
@@ -17,7 +17,7 @@ pub stands : (text : List Atom) (at to : ℕ) (kind : MetaFaultKind) → IsFlaw 
 stands text at to faults.NoMagicLine f = f.wrong
 stands text at to faults.Token f = f.wrong
 stands text at to faults.OutOfMemory f = f.wrong
-stands text at to faults.Syntax f = tt
+stands text at to faults.Syntax f = inr (inl (to, f))
 stands text at to (faults.Unsupported name) f = (to, f)
 stands text at to faults.Duplicate f = (to, f)
 stands text at to faults.NoPacketSize f = absurd f.wrong

@@ -8,10 +8,13 @@ use Rattle.tsdl_grammar.specs.declared.tree.Number.{Number}
 use Rattle.tsdl_grammar.specs.declared.fault.MetaFaultKind.{MetaFaultKind}
 use Rattle.tsdl_grammar.specs.declared.fault.MetaFaultKind.TheVariants as faults
 use Rattle.tsdl_grammar.specs.Spelling.{mark, word, name_toks, number_toks}
+use Rattle.tsdl_grammar.specs.Halts.{IsHalt}
 use Rattle.tsdl_flaw.specs.Written.{written}
 use Rattle.tsdl_flaw.specs.Fronts.{Ends}
 use Rattle.tsdl_flaw.specs.Twice.{IsTwice}
 use Rattle.tsdl_flaw.specs.Limits.{IsPassed}
+use Rattle.tsdl_flaw.specs.Misfits.{IsMisfit}
+use Rattle.tsdl_flaw.specs.Unfinished.{IsUnfinished}
 
 -- a name that is written so is spelled first
 pub record IsSpelled (piece : List Atom) (name : List ℕ) : Type 0 where
@@ -42,7 +45,7 @@ abbrev pub IsWrong : List Atom → List Atom → MetaFaultKind → Type 0
 IsWrong front piece faults.NoMagicLine = ⊥
 IsWrong front piece faults.Token = ⊥
 IsWrong front piece faults.OutOfMemory = ⊥
-IsWrong front piece faults.Syntax = Unit {0}
+IsWrong front piece faults.Syntax = IsMisfit front piece
 IsWrong front piece (faults.Unsupported name) = IsUnsupported front piece (string_bytes name)
 IsWrong front piece faults.Duplicate = IsTwice front piece
 IsWrong front piece faults.NoPacketSize = ⊥
@@ -59,12 +62,16 @@ pub record IsFlaw (front toks : List Atom) (at to : ℕ) (kind : MetaFaultKind) 
   pub ends : to ≡ length before + length piece
   pub wrong : IsWrong (front ++ before) piece kind
 
--- a fault of a whole text: the sizes of a stream's packets are missed where it ends
+-- something else than what is needed, among the atoms of a text or where it ends
+abbrev pub IsMisfitAt : List Atom → ℕ → Type 0
+IsMisfitAt text at = ((to : ℕ) × IsFlaw [] text at to faults.Syntax) ⊎ ((at ≡ length text) × IsUnfinished text)
+
+-- a fault of a whole text: its atoms stop spelling blocks, or a flaw stands among them, or something is missed where it ends, as the sizes of a stream's packets are
 abbrev pub FaultStands : List Atom → ℕ → MetaFaultKind → Type 0
 FaultStands text at faults.NoMagicLine = ⊥
 FaultStands text at faults.Token = ⊥
 FaultStands text at faults.OutOfMemory = ⊥
-FaultStands text at faults.Syntax = Unit {0}
+FaultStands text at faults.Syntax = IsHalt text at ⊎ IsMisfitAt text at
 FaultStands text at (faults.Unsupported name) = (to : ℕ) × IsFlaw [] text at to (faults.Unsupported name)
 FaultStands text at faults.Duplicate = (to : ℕ) × IsFlaw [] text at to faults.Duplicate
 FaultStands text at faults.NoPacketSize = at ≡ length text

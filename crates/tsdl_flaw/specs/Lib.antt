@@ -4,6 +4,8 @@ pub mod FlawWords
 pub mod Fronts
 pub mod Twice
 pub mod Limits
+pub mod Misfits
+pub mod Unfinished
 pub mod Flaws
 pub mod Stopping
 pub mod TextStops

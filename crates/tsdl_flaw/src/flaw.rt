@@ -4,6 +4,7 @@ ghost use Rattle.std.specs.Prelude.{◌≡◌, ◌++◌, ◌∷◌, [], List, If
 ghost use Rattle.tsdl_grammar.specs.declared.atom.Atom.{Atom};
 ghost use Rattle.tsdl_grammar.specs.Spelling.{name_toks};
 ghost use Rattle.tsdl_flaw.specs.Flaws.{IsWrong};
+ghost use Rattle.tsdl_flaw.specs.Misfits.{IsMisfit};
 ghost use Rattle.tsdl_flaw.specs.FlawWords.{twice_words, sizeless_words};
 ghost use Rattle.tsdl_flaw.specs.Stopping.{kind_of, StopsIn};
 ghost use Rattle.tsdl_flaw.specs.Written.{written};
@@ -220,7 +221,7 @@ impl Stop {
 
     /// Something else than these words expect, where a tree begins at an atom.
     pub fn expected<T: Spelled>(at: usize, tree: &T, words: &'static str) -> Stop
-        ensures { (front behind : List Atom) → StopsIn front at (T.toks tree.now ++ behind) result }
+        ensures { (front behind : List Atom) → IsMisfit front (T.toks tree.now) → StopsIn front at (T.toks tree.now ++ behind) result }
     {
         Stop::at(at, tree, Flaw::Syntax(words))
     }

@@ -1,6 +1,6 @@
 -- A stop in a part of a tree is a stop in the tree, and what a judge hands on from a part.
 use Rattle.std.proofs.Common.{◌≡◌, ℕ, suc, ◌+◌, ◌<◌, min, arith, List, ◌++◌, length, take, drop, get_or, sym, ap, ◌∙◌, subst, append_assoc, Result, Ok, Err, []}
-use Rattle.tsdl_meaning.proofs.TextWords.{Atom, Ends, HasLength, Holds, IfErr, IfOk, IsErrAnd, StandsBehind, Stop, StopsAmong, StopsIn, StopsWhere, append-nil, flat_map, most, stops_after, stops_item}
+use Rattle.tsdl_meaning.proofs.TextWords.{Atom, Ends, HasLength, Holds, IfErr, IfOk, IsErrAnd, StandsBehind, Stop, StopsIn, append-nil, flat_map, most, stops_after, stops_item}
 
 -- ---- answers
 
@@ -52,8 +52,3 @@ pub in_item : {A : Type 0} (f : A → List Atom) (xs : List A) (i : ℕ) (x : A)
 in_item f xs i x toks opening closing front behind at place stop h is e stands s =
     stops_same front (toks ++ behind) (opening ++ flat_map f xs ++ (closing ++ behind)) at stop (ap (λ (l : List Atom). l ++ behind) e ∙ simp append_assoc)
     (stops_item f xs i x opening (closing ++ behind) front at place stop h is stands (s (flat_map f (drop (suc i) xs) ++ (closing ++ behind))))
-
--- a stop that any front allows is one behind a front that something is known of
-pub any_front : {T : Type 0} (r : Result T Stop) (P : List Atom → Type 0) (at : ℕ) (toks : List Atom) → IfErr r (StopsAmong at toks) → IfErr r (StopsWhere P at toks)
-any_front (Ok v) P at toks h = tt
-any_front (Err s) P at toks h = λ front behind stands. h front behind

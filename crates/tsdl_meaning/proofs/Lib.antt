@@ -12,6 +12,8 @@ pub mod AllowedTypes
 pub mod AllowedText
 pub mod JudgedParts
 pub mod JudgedLedgers
+pub mod ListedBlocks
+pub mod Misfits
 pub mod BlockAttributes
 pub mod StopsInAttributes
 pub mod StopsInMembers

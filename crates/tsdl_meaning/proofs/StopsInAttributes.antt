@@ -77,12 +77,12 @@ named_twice names front behind sign n at counted before end there h counts passe
 
 -- a stop at the second word of a name
 pub in_second : (first : List ℕ) (rest : List (List ℕ)) (front behind : List Atom) (at place : ℕ) (stop : Stop) → 1 ≤ length rest → place ≡ min (at + 2) most
-    → ((f after : List Atom) (a : Atom) → StopsIn f place (a ∷ after) stop) → StopsIn front at (name_toks (record { first = first; rest = rest }) ++ behind) stop
+    → ((w : List ℕ) (after : List Atom) → StopsIn (front ++ word first ∷ mark marks.Dot ∷ []) place (word w ∷ after) stop) → StopsIn front at (name_toks (record { first = first; rest = rest }) ++ behind) stop
 in_second first [] front behind at place stop some is s = absurd (omega arith)
 in_second first (w ∷ rest) front behind at place stop some is s =
     let pre = word first ∷ mark marks.Dot ∷ [] in
     stops_after front (name_toks (record { first = first; rest = w ∷ rest }) ++ behind) pre (word w ∷ (flat_map dotted rest ++ behind)) at place stop refl (λ fits. omega arith)
-    (s (front ++ pre) (flat_map dotted rest ++ behind) (word w))
+    (s w (flat_map dotted rest ++ behind))
 
 -- what stands before the value of an attribute
 abbrev pub opening : Name → List Atom

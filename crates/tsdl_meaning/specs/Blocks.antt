@@ -7,6 +7,8 @@ use Rattle.tsdl_flaw.specs.Twice.{begun}
 use Rattle.tsdl_meaning.specs.declared.judge.block.BlockKind.{BlockKind}
 use Rattle.tsdl_meaning.specs.declared.judge.block.BlockKind.TheVariants as kinds
 use Rattle.tsdl_meaning.specs.declared.judge.block.Judging.{Judging}
+use Rattle.tsdl_meaning.specs.declared.judge.ledger.Ledger.{Ledger}
+use Rattle.tsdl_meaning.specs.Judged.{IsAttribute}
 use Rattle.tsdl_meaning.specs.Ledgers.{AreNoted}
 
 -- the word of a block
@@ -20,3 +22,8 @@ word_of kinds.Clock = codes "clock"
 pub record IsBegun (judging : Judging) (items : List Item) (front : List Atom) : Type 0 where
   pub noted : AreNoted front judging.ledger.now
   pub ends : Ends front (begun (word_of judging.kind) items)
+
+-- the value of an attribute of this name stands next, in a block of this word behind the blocks of a ledger
+pub record IsNotedAttribute (ledger : Ledger) (block name : List ℕ) (front : List Atom) : Type 0 where
+  pub noted : AreNoted front ledger
+  pub attribute : IsAttribute block name front

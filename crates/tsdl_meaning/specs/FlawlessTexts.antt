@@ -62,6 +62,7 @@ pub record AddsStream (before : Ledger) (is : List Item) (after : Ledger) : Type
 pub record AddsEvent (before : Ledger) (is : List Item) (after : Ledger) : Type 0 where
   pub events : BTreeMap (ℕ × ℕ) (String Global)
   pub others : after ≡ record before { events = events }
+  pub known : (key : ℕ × ℕ) → ContainsKey pair_cmp events key → ContainsKey pair_cmp before.events key ⊎ HasNumbers is key.0 key.1
   pub added : (name : List ℕ) (stream id : ℕ) → clock_name is ≡ Some name → HasNumbers is stream id → ContainsKey pair_cmp events (stream, id) × ((key : ℕ × ℕ) → ContainsKey pair_cmp before.events key → ContainsKey pair_cmp events key)
 
 abbrev pub AddsBlock : Ledger → Block → Ledger → Type 0
@@ -76,10 +77,21 @@ pub record IsEmpty (ledger : Ledger) : Type 0 where
   pub trace : ledger.has_trace ≡ false
   pub environment : ledger.has_environment ≡ false
   pub streams : (n : ℕ) → contains nat_cmp ledger.streams n ≡ false
+  pub events : (key : ℕ × ℕ) → ContainsKey pair_cmp ledger.events key → ⊥
 
 -- each event's stream is there
 abbrev pub HaveStreams : Ledger → Type 0
 HaveStreams ledger = (key : ℕ × ℕ) → ContainsKey pair_cmp ledger.events key → contains nat_cmp ledger.streams key.0 ≡ true
+
+-- an event's stream is not there
+pub record LacksStream (ledger : Ledger) : Type 0 where
+  pub key : ℕ × ℕ
+  pub there : ContainsKey pair_cmp ledger.events key
+  pub alone : contains nat_cmp ledger.streams key.0 ≡ false
+
+-- there is no trace block, or an event's stream is not there
+abbrev pub LacksBlocks : Ledger → Type 0
+LacksBlocks ledger = (ledger.has_trace ≡ false) ⊎ LacksStream ledger
 
 -- this is what integers have to know of the blocks, where their trace has a byte order and their clocks mean something
 abbrev pub Surveys : Known → List Block → Type 0

@@ -16,9 +16,9 @@ pub use Rattle.ctf_types.specs.declared.Metadata.{Metadata}
 pub use Rattle.ctf_types.specs.declared.Stream.{Stream}
 pub use Rattle.ctf_types.specs.declared.StructType.{StructType}
 pub use Rattle.ctf_types.specs.declared.limits.TheConstants.{LARGEST_ALIGN, MAX_ARRAYS, MAX_ELEMENTS, MAX_ENVIRONMENT, MAX_MEMBERS, MAX_RANGES}
-pub use Rattle.std.specs.BTreeMap.{BTreeMap, ContainsKey, btree_map_len, get, insert_entry, is_at, values}
+pub use Rattle.std.specs.BTreeMap.{BTreeMap, ContainsKey, get, is_at}
 pub use Rattle.std.specs.BTreeSet.{BTreeSet, contains, contains_text}
-pub use Rattle.std.specs.Cmp.{Equal-is, IsTotalOrder, eq_by_cmp_equiv, nat_cmp_is, nat_cmp_total}
+pub use Rattle.std.specs.Cmp.{Equal-is, IsTotalOrder, eq_by_cmp_equiv, nat_cmp_is}
 pub use Rattle.std.specs.Cmp.Lexicographic.{lists_ties, nat_list_eq_equiv, pointwise, slice_cmp, texts_ties}
 pub use Rattle.std.specs.List.{AllByRecursion, Contains, flat_map, list_all, list_any, position, position_or_len, prefix_len}
 pub use Rattle.std.specs.Option.{IsSome, is_some, option_and_then, option_map, option_map_or, option_or, unwrap_or}
@@ -32,10 +32,12 @@ pub use Rattle.tsdl_flaw.specs.Flaws.{IsPartOfVersion, IsUnsupported, IsWrong}
 pub use Rattle.tsdl_flaw.specs.Fronts.{Ends, Holds}
 pub use Rattle.tsdl_flaw.specs.Lengths.{HasLength, most}
 pub use Rattle.tsdl_flaw.specs.Limits.{IsLargeAlignment, IsLongLength, IsMemberTooMany, IsPassed, IsRangeTooMany, depth, elements}
+pub use Rattle.tsdl_flaw.specs.Misfits.{IsAsked, IsMisfit}
 pub use Rattle.tsdl_flaw.specs.Places.{StandsBehind}
 pub use Rattle.tsdl_flaw.specs.Stopping.{StopsIn, kind_of}
 pub use Rattle.tsdl_flaw.specs.TextStops.{IfFault, StopsText}
 pub use Rattle.tsdl_flaw.specs.Twice.{HasNumbers, IsMemberTwice, IsNameTwice, IsTwice, begun, clock_name}
+pub use Rattle.tsdl_flaw.specs.Unfinished.{IsOrphan, IsUnfinished}
 pub use Rattle.tsdl_flaw.specs.Written.{with_dot, written}
 pub use Rattle.tsdl_flaw.specs.declared.flaw.Stop.{Stop}
 pub use Rattle.tsdl_grammar.specs.AttributeValues.{alone, flag_value, flag_words, is_negative, meant_by, name_value, natural, natural_value, one_word, optional, signed_of, text_value, uuid_value, whole, whole_value, with_default, word_value}
@@ -64,12 +66,12 @@ pub use Rattle.tsdl_grammar.specs.declared.tree.Number.{Number}
 pub use Rattle.tsdl_grammar.specs.declared.tree.Scope.{Scope}
 pub use Rattle.tsdl_grammar.specs.declared.tree.Structure.{Structure}
 pub use Rattle.tsdl_grammar.specs.declared.tree.Value.{Value}
-pub use Rattle.tsdl_meaning.specs.Blocks.{IsBegun, word_of}
+pub use Rattle.tsdl_meaning.specs.Blocks.{IsBegun, IsNotedAttribute, word_of}
 pub use Rattle.tsdl_meaning.specs.BracketLengths.{Adds, IsBehindBrackets, IsInBracket, IsInBrackets, PassesLimit}
 pub use Rattle.tsdl_meaning.specs.FlawlessBlocks.{AddsAttribute, AddsName, AddsScope, AreFlawless, Asked, IsEnded, IsFlawlessBlock, IsFlawlessScope, IsNumberedAnew, asked_of, first_texts, fits, fits_word, is_fit, is_number, is_order, named_rules, needed, of_clock, of_event, of_stream, of_trace, passes, rule_in, scopes_of}
 pub use Rattle.tsdl_meaning.specs.FlawlessBrackets.{AreBrackets, HaveNumbers, KeepsLimits, NameLength}
 pub use Rattle.tsdl_meaning.specs.FlawlessStructures.{AddsMember, IsFlawless}
-pub use Rattle.tsdl_meaning.specs.FlawlessTexts.{AddsBlock, AddsClock, AddsFact, AddsStream, HaveStreams, IsEmpty, IsFlawlessBehind, MeanEntries, Surveys}
+pub use Rattle.tsdl_meaning.specs.FlawlessTexts.{AddsBlock, AddsClock, AddsFact, AddsStream, HaveStreams, IsEmpty, IsFlawlessBehind, LacksBlocks, LacksStream, MeanEntries, Surveys}
 pub use Rattle.tsdl_meaning.specs.FlawlessTypes.{AreRanges, is_alignment, is_size, of_integer, of_string, own_asked, own_attrs, string_attrs, tree_of, type_word}
 pub use Rattle.tsdl_meaning.specs.Fronts.{with_front}
 pub use Rattle.tsdl_meaning.specs.Groups.{AddsEvent, OthersStay, group_of, with_group, with_own}

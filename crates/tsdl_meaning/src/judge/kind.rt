@@ -1,7 +1,7 @@
 //! The first flaw of a member's kind: an integer, an enumeration or a string, and of its attributes.
 
 ghost use Rattle.std.specs.Prelude.{◌∷◌, ◌++◌, IsSome, IfOk, IfErr, ◌≡◌, IsTrue};
-ghost use Rattle.tsdl_meaning.specs.Words.{flat_map, kind_toks, entry_toks, next_entry_toks, word, attr_toks, attrs_toks, value_toks, entry_meaning, kind_meaning, StopsAmong, StopsWhere, IsBehindBrace, IsBehindWord, AreRanges, AddsAttribute, is_among, words_of, of_integer, tree_of, type_word, own_attrs, own_asked, is_some, order_value, base_value, clock_value, names_of, AreNamed, fits, is_fit};
+ghost use Rattle.tsdl_meaning.specs.Words.{flat_map, kind_toks, entry_toks, next_entry_toks, word, attr_toks, attrs_toks, value_toks, entry_meaning, kind_meaning, StopsAmong, StopsWhere, IsAsked, IsBehindBrace, IsBehindWord, AreRanges, AddsAttribute, is_among, words_of, of_integer, tree_of, type_word, own_attrs, own_asked, is_some, order_value, base_value, clock_value, names_of, AreNamed, fits, is_fit};
 ghost use Rattle.tsdl_grammar.specs.declared.token.Mark.TheVariants as marks;
 
 use crate::enumeration::rises;
@@ -11,7 +11,9 @@ use crate::integer::{
 use crate::judge::block::Judging;
 use crate::judge::clock_words::clock_words;
 use crate::judge::names::Names;
-use crate::judge::value::{judge_align, judge_flag, judge_natural, number, unread, unread_order};
+use crate::judge::value::{
+    judge_align, judge_flag, judge_natural, misfit, number, unread, unread_order,
+};
 use crate::lookup::{attr, is_name_among};
 use crate::member::{ENCODINGS, STRING_ATTRIBUTES, STRING_PARTS, is_encoding};
 use crate::value::{one_word, word_value};
@@ -155,7 +157,7 @@ fn parts_of(kind: TypeKind) -> &'static str {
 }
 
 /// What the attribute of this name has, behind its name and `=`.
-#[tactic(auto, using(crate::proofs::JudgedParts::any_front))]
+#[tactic(auto, using(crate::proofs::Misfits::asked_by_word))]
 fn judge_value(
     judging: &Judging,
     kind: TypeKind,
@@ -170,7 +172,7 @@ fn judge_value(
         TypeKind::Integer => match word {
             "size" => match judge_natural(value, at)? {
                 1..=64 => Ok(()),
-                _ => Err(Stop::expected(at, value, "a size from 1 to 64 bits")),
+                _ => Err(misfit(value, at, "a size from 1 to 64 bits")),
             },
             "align" => judge_align(number(value, at)?, at),
             "signed" => judge_flag(value, at),
@@ -187,7 +189,7 @@ fn judge_value(
 /// `native`, or the trace's own byte order.
 fn judge_order(judging: &Judging, value: &Value, at: usize) -> Result<(), Stop>
     ensures fit { IfOk result (λ _. IsTrue (is_some (order_value judging.now.survey.now.known.order value.now))) }
-    ensures fault { IfErr result (StopsAmong at (value_toks value.now)) }
+    ensures fault { IfErr result (StopsWhere IsAsked at (value_toks value.now)) }
 {
     match word_value(value) {
         Some(word) if !judging.survey.has_order && is_among(word.as_str(), &["native"]) => Ok(()),
@@ -207,14 +209,14 @@ fn judge_order(judging: &Judging, value: &Value, at: usize) -> Result<(), Stop>
 /// `2 binary b`, `8 octal oct o`, `10 decimal dec d i u` or `16 hexadecimal hex x X p`.
 fn judge_base(judging: &Judging, value: &Value, at: usize) -> Result<(), Stop>
     ensures fit { IfOk result (λ _. IsTrue (is_some (base_value value.now))) }
-    ensures fault { IfErr result (StopsAmong at (value_toks value.now)) }
+    ensures fault { IfErr result (StopsWhere IsAsked at (value_toks value.now)) }
 {
     if base_value(value).is_some() {
         return Ok(());
     }
     if let Value::Number(_) = value {
         judge_natural(value, at)?;
-        return Err(Stop::expected(at, value, "2, 8, 10 or 16"));
+        return Err(misfit(value, at, "2, 8, 10 or 16"));
     }
     Err(unread(judging.alloc, value, at, BASES))
 }
@@ -222,13 +224,13 @@ fn judge_base(judging: &Judging, value: &Value, at: usize) -> Result<(), Stop>
 /// `clock.NAME.value`. A clock that is not there is a flaw of its name.
 fn judge_map(judging: &Judging, value: &Value, at: usize) -> Result<(), Stop>
     ensures fit { IfOk result (λ _. IsTrue (is_some (clock_value judging.now.survey.now.known.clocks value.now))) }
-    ensures fault { IfErr result (StopsAmong at (value_toks value.now)) }
+    ensures fault { IfErr result (StopsWhere IsAsked at (value_toks value.now)) }
 {
     if clock_value(&judging.survey.known, value).is_some() {
         return Ok(());
     }
     let Value::Name(name) = value else {
-        return Err(Stop::expected(at, value, "a name"));
+        return Err(misfit(value, at, "a name"));
     };
     match name.rest.as_slice() {
         [_, last] if name.first.as_str() == "clock" && last.as_str() == "value" => {
@@ -236,6 +238,6 @@ fn judge_map(judging: &Judging, value: &Value, at: usize) -> Result<(), Stop>
             let clocks = clock_words(judging.alloc, judging.survey.known.clocks())?;
             Err(Stop::at_atom(place, Flaw::NoClock(clocks)))
         }
-        _ => Err(Stop::expected(at, value, "`clock.NAME.value`")),
+        _ => Err(misfit(value, at, "`clock.NAME.value`")),
     }
 }

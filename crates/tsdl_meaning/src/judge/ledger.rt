@@ -1,7 +1,7 @@
 //! What the blocks of a text so far say: what may stand once only, and what the end of the text is judged by.
 
-ghost use Rattle.std.specs.Prelude.{◌≡◌, ◌↔◌, ◌⊎◌, ℕ, true, false, None, List, [], ◌∷◌, OnOk, IfOk, IfErr, IsTrue, IfSome, codes};
-ghost use Rattle.tsdl_meaning.specs.Words.{nat_cmp, ContainsKey, contains, contains_text, Atom, block_toks, Holds, kind_of, HasNumbers, AddsBlock, HaveStreams, IsEmpty, AreNoted, HasClock, HasStream, HasEvent, pair_cmp};
+ghost use Rattle.std.specs.Prelude.{◌≡◌, ◌↔◌, ◌⊎◌, ℕ, true, false, None, List, [], ◌∷◌, OnOk, IfOk, IfErr, IsTrue, IfSome, MatchOption, codes};
+ghost use Rattle.tsdl_meaning.specs.Words.{nat_cmp, ContainsKey, contains, contains_text, Atom, block_toks, Holds, kind_of, HasNumbers, AddsBlock, HaveStreams, LacksStream, LacksBlocks, IsEmpty, AreNoted, HasClock, HasStream, HasEvent, pair_cmp};
 ghost use Rattle.tsdl_grammar.specs.declared.fault.MetaFaultKind.TheVariants as faults;
 
 use crate::judge::sizes::flaw_of_sizes;
@@ -94,7 +94,7 @@ impl Ledger {
     /// The flaw of a text of these blocks that has none before its end.
     pub(crate) fn flaw_at_end(&self, alloc: Global, blocks: &[Block]) -> Result<Flaw, AllocError>
         ensures complete { IfOk result (λ flaw. kind_of flaw ≡ faults.NoPacketSize → (self.now.has_trace ≡ true) × HaveStreams self.now) }
-        ensures kind { IfOk result (λ flaw. (kind_of flaw ≡ faults.Syntax) ⊎ (kind_of flaw ≡ faults.NoPacketSize)) }
+        ensures kind { IfOk result (λ flaw. (kind_of flaw ≡ faults.NoPacketSize) ⊎ ((kind_of flaw ≡ faults.Syntax) × LacksBlocks self.now)) }
     {
         if !self.has_trace {
             return Ok(Flaw::Syntax("a trace block"));
@@ -107,7 +107,7 @@ impl Ledger {
 
     /// The first event by number whose stream is not there.
     fn first_orphan(&self, alloc: Global) -> Result<Option<Orphan>, AllocError>
-        ensures { IfOk result (λ orphan. orphan ≡ None → HaveStreams self.now) }
+        ensures { IfOk result (λ orphan. MatchOption orphan (HaveStreams self.now) (λ _. LacksStream self.now)) }
     {
         for ((stream, _), name) in &self.events {
             if !self.streams.contains(stream) {

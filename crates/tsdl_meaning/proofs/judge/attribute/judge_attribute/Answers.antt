@@ -1,5 +1,5 @@
 use Rattle.std.proofs.Common.{ℕ, List, Some, ◌∷◌, sym, ap, ◌∙◌, []}
-use Rattle.tsdl_meaning.proofs.TextWords.{AreNamed, AreNoted, Atom, IsAttribute, IsBegun, asked_of, attr_toks, begun, mark, value_toks, word, word_of}
+use Rattle.tsdl_meaning.proofs.TextWords.{AreNamed, Atom, IsBegun, IsNotedAttribute, asked_of, attr_toks, begun, mark, value_toks, word, word_of}
 use Rattle.tsdl_grammar.specs.declared.token.Mark.TheVariants as marks
 use Rattle.tsdl_meaning.proofs.BlockAttributes.{in_name, in_value, value_adds}
 use Rattle.tsdl_meaning.proofs.JudgedLedgers.{noted_more}
@@ -19,9 +19,9 @@ returns-clause-fault c = λ items.
     let judging = c.args.judging.now in
     let block = word_of judging.kind in
     let w = c.as_str.result.now in
-    in_value (λ (front : List Atom). IsBegun judging items front × AreNamed front marks.Equals c.args.names.now.names) (λ (front : List Atom). AreNoted front judging.ledger.now × IsAttribute block w front)
+    in_value (λ (front : List Atom). IsBegun judging items front × AreNamed front marks.Equals c.args.names.now.names) (IsNotedAttribute judging.ledger.now block w)
     c.judge_named.result c.args.attribute.now w c.args.at c.saturating_add-behind.result (sym c.in-Some.ensures ∙ ap (λ (n : List ℕ). Some n) (sym c.as_str.ensures)) c.saturating_add-behind.ensures
-    (λ front p. let opening = word w ∷ mark marks.Equals ∷ [] in (noted_more front opening judging.ledger.now p.0.noted, (items, ends_more front (begun block items) opening p.0.ends))) c.judge_named.ensures.fault
+    (λ front p. let opening = word w ∷ mark marks.Equals ∷ [] in record { noted = noted_more front opening judging.ledger.now p.0.noted; attribute = (items, ends_more front (begun block items) opening p.0.ends) }) c.judge_named.ensures.fault
 
 pub returns-clause-flawless : goal.returns-clause-flawless
 returns-clause-flawless c =

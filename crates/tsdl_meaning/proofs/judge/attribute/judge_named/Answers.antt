@@ -7,17 +7,17 @@ use Rattle.tsdl_meaning.proofs.judge.attribute.judge_named.Goals as goal
 pub returns-then-has_stream-clause-fault : goal.returns-then-has_stream-clause-fault
 returns-then-has_stream-clause-fault c = λ front behind p.
     let ok = c.in_ok-stream-in-Stream in
-    let stream = subst (λ (kind : BlockKind). IsAttribute (word_of kind) c.args.word.now front) c.in-Stream.is p.1 in
+    let stream = subst (λ (kind : BlockKind). IsAttribute (word_of kind) c.args.word.now front) c.in-Stream.is p.attribute in
     c.at.ensures front behind
-    (stream_twice c.args.value.now ok.stream front ok.ensures.value (c.has_stream.ensures.noted front p.0 c.if-has_stream.true)
+    (stream_twice c.args.value.now ok.stream front ok.ensures.value (c.has_stream.ensures.noted front p.noted c.if-has_stream.true)
     (subst (λ (w : List ℕ). IsAttribute (codes "stream") w front) ((bytes_eq-Decides c.args.word.now (codes "id")).0 (sym c.eq.ensures ∙ c.if-eq.true)) stream))
 
 pub returns-then-has_clock-clause-fault : goal.returns-then-has_clock-clause-fault
 returns-then-has_clock-clause-fault c = λ front behind p.
     let ok = c.in_ok-judge_label-in-name-word in
-    let clock = subst (λ (kind : BlockKind). IsAttribute (word_of kind) c.args.word.now front) c.in-Clock.is p.1 in
+    let clock = subst (λ (kind : BlockKind). IsAttribute (word_of kind) c.args.word.now front) c.in-Clock.is p.attribute in
     c.at-then-has_clock.ensures front behind
-    (clock_twice c.args.value.now ok.field-0.now front ok.ensures.value (c.has_clock.ensures.noted front p.0 c.if-has_clock.true)
+    (clock_twice c.args.value.now ok.field-0.now front ok.ensures.value (c.has_clock.ensures.noted front p.noted c.if-has_clock.true)
     (subst (λ (w : List ℕ). IsAttribute (codes "clock") w front) c.in-name-word.is clock))
 
 pub returns-in_default-word-clause-fit : goal.returns-in_default-word-clause-fit

@@ -2,6 +2,7 @@ use Rattle.std.proofs.Common.{List, arith, ◌∷◌, ◌++◌, take, refl, subs
 use Rattle.tsdl_grammar.specs.declared.token.Mark.TheVariants as marks
 use Rattle.tsdl_meaning.proofs.TextWords.{Attribute, StandsBehind, StopsAmong, attr, attr_toks, attrs_toks, behind_item, flat_map, mark, own_asked, own_attrs, take_all, type_word, word}
 use Rattle.tsdl_meaning.proofs.Fronts.{next_item}
+use Rattle.tsdl_meaning.proofs.Misfits.{size_missed}
 use Rattle.tsdl_meaning.proofs.JudgedParts.{handed, in_item, in_part}
 use Rattle.tsdl_meaning.proofs.StopsInAttributes.{attributes_named, list_opening}
 use Rattle.tsdl_meaning.proofs.FlawlessTypes.{Own, own_more, type_means, seen}
@@ -50,7 +51,7 @@ returns-in-Integer-clause-fault c = λ front behind.
     let pre = list_opening w ++ flat_map attr_toks attrs in
     in_part (word w ∷ attrs_toks attrs) pre (mark marks.CloseBrace ∷ []) [] front behind c.args.at next c.at_atom.result refl
     (subst (λ (l : List Attribute). StandsBehind c.args.at (list_opening w ++ flat_map attr_toks l) next) (take_all c.loop-attribute.attribute-index attrs (omega arith)) c.loop-attribute.invariant.stands)
-    (c.at_atom.ensures (front ++ pre) behind (mark marks.CloseBrace) tt)
+    (c.at_atom.ensures (front ++ pre) behind (mark marks.CloseBrace) (size_missed c.args.kind attrs front c.attr.result c.in-Integer.is c.attr.ensures c.if-is_none.ensures))
 
 pub returns-clause-meant : goal.returns-clause-meant
 returns-clause-meant c =

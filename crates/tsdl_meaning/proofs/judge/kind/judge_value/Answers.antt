@@ -1,6 +1,7 @@
 use Rattle.std.proofs.Common.{ap, inl, List, ℕ, subst}
 use Rattle.tsdl_meaning.proofs.TextWords.{IsBehindAlign, IsBehindWord, number_toks, StopsWhere, of_integer, passes, IfErr-weaker}
 use Rattle.tsdl_meaning.proofs.WordTables.{absent}
+use Rattle.tsdl_meaning.proofs.Misfits.{behind_word}
 use Rattle.tsdl_meaning.proofs.judge.kind.judge_value.Goals as goal
 
 pub returns-in_ok-number-in-align-clause-fault : goal.returns-in_ok-number-in-align-clause-fault
@@ -18,7 +19,7 @@ returns-in_default-clause-fit c =
     (absent (of_integer c.args.judging.now.survey.now.known) c.args.word.now (n.not-size, (n.not-align, (n.not-signed, (n.not-byte_order, (n.not-base, (n.not-map, tt))))))))
 
 pub returns-in_default-2-clause-fault : goal.returns-in_default-2-clause-fault
-returns-in_default-2-clause-fault c = λ front behind p. c.expected.ensures front behind
+returns-in_default-2-clause-fault c = λ front behind p. c.misfit.ensures front behind (behind_word c.args.word.now front p)
 
 pub returns-in-Text-2-clause-fault : goal.returns-in-Text-2-clause-fault
-returns-in-Text-2-clause-fault c = λ front behind stands. c.unread.ensures front behind
+returns-in-Text-2-clause-fault c = λ front behind stands. c.unread.ensures front behind (behind_word c.args.word.now front stands)

@@ -1,10 +1,12 @@
-use Rattle.std.proofs.Common.{arith, List, ◌∷◌, ◌++◌, take, refl, sym, ◌∙◌, subst, append_assoc, []}
-use Rattle.tsdl_meaning.proofs.TextWords.{AreNoted, Atom, Block, StandsBehind, StopsIn, append-nil, behind_more, block_and_semicolon, block_toks, flat_next, mark, take_all, text_toks}
+use Rattle.std.proofs.Common.{inl, inr, arith, List, ◌∷◌, ◌++◌, take, refl, sym, ◌∙◌, subst, append_assoc, []}
+use Rattle.tsdl_meaning.proofs.TextWords.{AreNoted, Atom, Block, StandsBehind, StopsIn, append-nil, behind_more, block_and_semicolon, block_toks, flat_next, kind_of, mark, take_all, text_toks}
+use Rattle.tsdl_flaw.specs.TextStops.{IsMissed}
 use Rattle.tsdl_grammar.specs.declared.token.Mark.TheVariants as marks
 use Rattle.tsdl_meaning.proofs.JudgedParts.{handed, holds_last, in_item, stops_same}
 use Rattle.tsdl_meaning.proofs.Fronts.{next_item}
 use Rattle.tsdl_meaning.proofs.JudgedLedgers.{at_end, noted_more}
 use Rattle.tsdl_meaning.proofs.FlawlessTexts.{Text, block_more, no_blocks, sizes_missed}
+use Rattle.tsdl_meaning.proofs.ListedBlocks.{Listed, listed_more, none_listed, unfinished}
 use Rattle.tsdl_meaning.proofs.judge.text.judge_blocks.Goals as goal
 
 pub returns-in_err-judge_block-clause-fault : goal.returns-in_err-judge_block-clause-fault
@@ -44,6 +46,9 @@ loop-block-preserved c =
       text =
           next_item (λ (bs : List Block). Text c.args.survey.now.known c.add.new.self bs) blocks i b (omega arith) c.block-item.is
           (block_more c.args.survey.now.known c.loop-block.ledger c.add.new.self (take i blocks) b c.loop-block.invariant.text c.in_ok-judge_block.ensures.flawless c.in_ok-add.ensures.adds);
+      listed =
+          next_item (λ (bs : List Block). Listed c.add.new.self bs) blocks i b (omega arith) c.block-item.is
+          (listed_more c.args.survey.now.known c.loop-block.ledger c.add.new.self (take i blocks) b c.loop-block.invariant.listed c.in_ok-judge_block.ensures.flawless c.in_ok-add.ensures.adds);
     }
 
 pub returns-clause-end : goal.returns-clause-end
@@ -54,10 +59,17 @@ returns-clause-end c =
     let place : StandsBehind 0 toks next =
     subst (λ (bs : List Block). StandsBehind 0 (text_toks bs) next) (take_all c.loop-block.block-index blocks (omega arith)) c.loop-block.invariant.place
     in
-    λ bound. at_end toks next c.in_ok-flaw.flaw (let e = place (omega arith) in omega arith) c.in_ok-flaw.ensures.kind
+    let known = c.args.survey.now.known in
+    let ledger = c.loop-block.ledger in
+    let text = subst (λ (bs : List Block). Text known ledger bs) (take_all c.loop-block.block-index blocks (omega arith)) c.loop-block.invariant.text in
+    let listed = subst (λ (bs : List Block). Listed ledger bs) (take_all c.loop-block.block-index blocks (omega arith)) c.loop-block.invariant.listed in
+    let missed : IsMissed toks (kind_of c.in_ok-flaw.flaw) =
+    elim c.in_ok-flaw.ensures.kind [ inl sizes ↦ inl sizes | inr l ↦ inr (l.0, unfinished known ledger blocks text listed l.1) ]
+    in
+    λ bound. at_end toks next c.in_ok-flaw.flaw (let e = place (omega arith) in omega arith) missed
 
 pub loop-block-init : goal.loop-block-init
-loop-block-init c = record { place = λ fits. refl; noted = c.new-ledger.ensures.noted []; text = no_blocks c.args.survey.now.known c.new-ledger.result c.new-ledger.ensures.empty }
+loop-block-init c = record { place = λ fits. refl; noted = c.new-ledger.ensures.noted []; text = no_blocks c.args.survey.now.known c.new-ledger.result c.new-ledger.ensures.empty; listed = none_listed c.new-ledger.result c.new-ledger.ensures.empty }
 
 pub returns-clause-sizes : goal.returns-clause-sizes
 returns-clause-sizes c = λ surveys none bounded kind.

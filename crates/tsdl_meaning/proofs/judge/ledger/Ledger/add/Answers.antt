@@ -1,7 +1,7 @@
-use Rattle.std.proofs.Common.{◌≡◌, true, ℕ, List, Bor, None, option_map, refl, sym, ap, ap₂, ◌∙◌, cond, subst, bytes_eq, codes}
+use Rattle.std.proofs.Common.{◌≡◌, true, ℕ, List, Bor, None, option_map, refl, sym, ap, ap₂, ◌∙◌, cond, subst, bytes_eq, codes, inl}
 use Rattle.std.proofs.lemmas.Map.Text.{btree_set_updates_text}
 use Rattle.tsdl_meaning.proofs.TextWords.{Block, ContainsKey, HasNumbers, Holds, Item, attrs_in, block_toks, clock_name, contains_text, is_some, number_or_zero, pair_cmp, some_same, string_bytes}
-use Rattle.tsdl_meaning.proofs.JudgedLedgers.{clock_more, event_more, key_stays}
+use Rattle.tsdl_meaning.proofs.JudgedLedgers.{clock_more, event_more, key_known, key_stays}
 use Rattle.tsdl_meaning.proofs.judge.ledger.Ledger.add.Goals as goal
 
 pub returns-in_ok-_is_new-in-Clock-clause-noted : goal.returns-in_ok-_is_new-in-Clock-clause-noted
@@ -57,6 +57,9 @@ pub returns-in_ok-insert-in-Event-clause-adds : goal.returns-in_ok-insert-in-Eve
 returns-in_ok-insert-in-Event-clause-adds c = rw c.in-Event.is (record {
   events = c.insert-in-Event.new.self;
   others = refl;
+  known =
+      key_known c.args.self.now.events c.insert-in-Event.new.self c.in-Event.items c.in-Some-Some.numbers _ c.in_ok-insert-in-Event.ensures.updates.0
+      (subst (λ (is : List Item). HasNumbers is c.in-Some-Some.numbers.0 c.in-Some-Some.numbers.1) c.as_slice-items.ensures c.in-Some-Some.ensures'.found);
   added = λ name stream id named numbers.
       let given = c.in-Some-Some.numbers in
       let found = subst (λ (is : List Item). HasNumbers is given.0 given.1) c.as_slice-items.ensures c.in-Some-Some.ensures'.found in
@@ -71,6 +74,7 @@ pub returns-in_default-2-clause-adds : goal.returns-in_default-2-clause-adds
 returns-in_default-2-clause-adds c = rw c.in-Event.is (record {
   events = c.args.self.now.events;
   others = refl;
+  known = λ key there. inl there;
   added = λ name stream id named numbers. absurd (c.event_numbers.ensures.none c.in_default-2.is-1 stream id (subst (λ (is : List Item). HasNumbers is stream id) (sym c.as_slice-items.ensures) numbers));
 })
 
@@ -78,6 +82,7 @@ pub returns-in_default-2-2-clause-adds : goal.returns-in_default-2-2-clause-adds
 returns-in_default-2-2-clause-adds c = rw c.in-Event.is (record {
   events = c.args.self.now.events;
   others = refl;
+  known = λ key there. inl there;
   added = λ name stream id named numbers.
       absurd (let none : clock_name c.in-Event.items ≡ None = ap clock_name (sym c.as_slice-items.ensures) ∙ sym c.name_in-in-Event.ensures ∙ ap (option_map (λ (t : Bor (List ℕ)). t.now)) c.in_default-2.is-0 in cc);
 })
