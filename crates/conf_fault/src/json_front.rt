@@ -35,6 +35,11 @@ impl Before {
         }
     }
 
+    /// Whether a text, a number or a word that begins with this byte can follow, in an object or not.
+    fn takes_scalar(self, byte: u8, in_object: bool) -> bool {
+        self.takes_value(in_object) || (in_object && byte == b'"' && self.takes_name())
+    }
+
     /// What a text, a number or a word is behind this, in an object or not.
     fn scalar(self, in_object: bool) -> Before {
         if in_object && self.takes_name() {
@@ -59,14 +64,10 @@ pub(crate) fn longest_front(alloc: Global, text: &[u8]) -> Result<Stop, AllocErr
     let mut next = 0usize;
     for at in 0..text.len() {
         let byte = text[at];
-        if at < next || is_space(byte) {
-            continue;
-        }
         let in_object = closing.last() == Some(&b'}');
-        let takes_name = in_object && before.takes_name();
-        let takes_value = before.takes_value(in_object);
         before = match byte {
-            b'{' | b'[' if takes_value => {
+            _ if at < next || is_space(byte) => before,
+            b'{' | b'[' if before.takes_value(in_object) => {
                 if closing.len() >= MOST_LEVELS {
                     return Ok(Stop {
                         at,
@@ -82,7 +83,7 @@ pub(crate) fn longest_front(alloc: Global, text: &[u8]) -> Result<Stop, AllocErr
             }
             b',' if before == Before::Value && !closing.is_empty() => Before::Mark(b','),
             b':' if before == Before::Name => Before::Mark(b':'),
-            _ if takes_value || (takes_name && byte == b'"') => {
+            _ if before.takes_scalar(byte, in_object) => {
                 match scalar_end(text, at) {
                     Ok(end) => next = end,
                     Err(stop) => return Ok(within(text, stop)),
