@@ -17,6 +17,7 @@ use Rattle.conf_tree.specs.declared.step.Step.{Step}
 use Rattle.conf_tree.specs.declared.fault_kind.FaultKind.{FaultKind}
 use Rattle.conf_tree.specs.declared.fault_kind.FaultKind.TheVariants as kinds
 use Rattle.conf_tree.specs.declared.fault.ConfFault.{ConfFault}
+use Rattle.conf_fault.specs.declared.expected.TheConstants.{MOST_NAMES}
 use Rattle.conf_fault.specs.Explanation.{Adds, fixed_words, same_words}
 use Rattle.conf_fault.specs.Expected.{classes_at, expected_words, listed}
 use Rattle.conf_fault.specs.Wanted.{IsChoice, IsHint, IsInRange, IsKnownName, IsLargestNumber, IsNearestIf, IsOneOf, IsRoom, IsTextThere, IsTold, IsToldOfKind, end_name, few_listed, named_text, real_hint, size_words, value_words}
@@ -168,8 +169,8 @@ adds_by_kind r text fault end was now e h = on_ok_weaker r (λ (adds : Adds (IsT
 
 -- ---- names of which there are many
 
-pub few : (names : List (List ℕ)) → length names ≤ 20 → listed names ≡ few_listed names
+pub few : (names : List (List ℕ)) → length names ≤ MOST_NAMES → listed names ≡ few_listed names
 few names h = grind (arith, nat_tests)
 
-pub many : (names : List (List ℕ)) → 20 < length names → listed (take 20 names) ++ (codes " and " ++ decimal (length names - 20) ++ codes " more") ≡ few_listed names
+pub many : (names : List (List ℕ)) → MOST_NAMES < length names → listed (take MOST_NAMES names) ++ (codes " and " ++ decimal (length names - MOST_NAMES) ++ codes " more") ≡ few_listed names
 many names h = grind (arith, nat_tests)

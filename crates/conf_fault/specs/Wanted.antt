@@ -20,6 +20,7 @@ use Rattle.conf_table.specs.Table.{entries_of, rows_of}
 use Rattle.conf_table.specs.Words.{words_of}
 use Rattle.serde_json.specs.Data.{Data}
 use Rattle.serde_json.specs.Find.{as_str}
+use Rattle.conf_fault.specs.declared.expected.TheConstants.{MOST_NAMES}
 use Rattle.conf_fault.specs.Expected.{classes_at, expected_words, listed}
 use Rattle.conf_fault.specs.Found.{Leads, PathEnd, StandsIn, outermost}
 use Rattle.conf_fault.specs.Names.{IsRead, known_names}
@@ -141,9 +142,9 @@ IsInRange text value (Some (contents.Word choice)) position said = IsChoice text
 IsInRange text value (Some contents.Class) position said = IsChoice text value (classes_at position) said
 IsInRange text value content position said = said ≡ expected_words content position
 
--- the first 20 of some names, and how many more there are
+-- the first of some names, and how many more there are than are listed
 abbrev pub few_listed : List (List ℕ) → List ℕ
-few_listed names = if nat_le (length names) 20 then listed names else listed (take 20 names) ++ (codes " and " ++ decimal (length names - 20) ++ codes " more")
+few_listed names = if nat_le (length names) MOST_NAMES then listed names else listed (take MOST_NAMES names) ++ (codes " and " ++ decimal (length names - MOST_NAMES) ++ codes " more")
 
 -- the name of a thing, with those that the map of the trace type has but the one in whose value it would stand, and the nearest of them or none
 abbrev pub IsKnownName : List ℕ → Option Data → List ℕ → List ℕ → List ℕ → List ℕ → Type 0
