@@ -30,8 +30,8 @@ pub(crate) fn push_not_json(source: Source<'_>, said: &mut String) -> Result<(),
 
 /// The place of the first byte with which a text is no longer the beginning of a JSON text, or of its end, where more has to follow.
 ///
-/// A byte of no whole character in UTF-8 is such a byte, and so are the bracket that opens a 128th level, the last digit of a number too large for a
-/// float, and the backslash of half a character (`\ud800`).
+/// A byte of no whole character in UTF-8 is such a byte, and so are the bracket that opens one level more than `MOST_LEVELS`, the last digit of a number
+/// too large for a float, and the backslash of half a character (`\ud800`).
 pub fn json_place(alloc: Global, text: &[u8]) -> Result<LineColumn, AllocError>
     ensures { IfOk result (IsPlaceIn text.now) }
 {
