@@ -14,7 +14,7 @@ use Rattle.conf_fault.specs.declared.stop.Reason.{Reason}
 use Rattle.conf_fault.specs.Shown.{cut, shown}
 use Rattle.conf_fault.specs.Stop.{HasReason, reason_words}
 use Rattle.conf_fault.specs.Wanted.{IsToldAndHinted}
-use Rattle.conf_fault.specs.Written.{closed_up}
+use Rattle.conf_fault.specs.Written.{IsWhole, closed_up}
 use Rattle.conf_tree.specs.Walk.{Reads}
 use Rattle.serde_json.specs.Data.{Data}
 
@@ -55,9 +55,9 @@ name_words ReservedName = Some (codes "reserved word")
 name_words NameClash = Some (codes "name is taken")
 name_words _ = None
 
--- the bytes of a JSON value, or of a name, that begin at the place, without the white space between their parts
+-- the bytes of a JSON value, or of a name, that begin at the place, all of them, without the white space between their parts
 abbrev pub IsClosedUp : List ℕ → ℕ → List ℕ → Type 0
-IsClosedUp text at words = (count : ℕ) × (value : Data) × Reads (take count (drop at text)) value × (words ≡ closed_up (take count (drop at text)))
+IsClosedUp text at words = (count : ℕ) × (value : Data) × Reads (take count (drop at text)) value × IsWhole (drop at text) count × (words ≡ closed_up (take count (drop at text)))
 
 -- what begins at the place, cut; where no value begins by itself, that it is one
 abbrev pub IsWritten : List ℕ → ℕ → List ℕ → Type 0

@@ -6,9 +6,10 @@ ghost use Rattle.conf_tree.specs.Walk.{Reads};
 ghost use Rattle.conf_fault.specs.Found.{StandsIn};
 ghost use Rattle.conf_fault.specs.Names.{IsRead};
 ghost use Rattle.conf_fault.specs.Explanation.{IsClosedUp};
+ghost use Rattle.conf_fault.specs.Written.{IsWhole};
 
 use crate::layers::Layer;
-use crate::written::closed_up;
+use crate::written::{Within, closed_up};
 use serde_json::Value;
 use std::alloc::{AllocError, Global};
 use std::str;
@@ -45,7 +46,7 @@ impl<'t> Source<'t> {
 
     /// The bytes of the value that begins at a place.
     fn value_at(&self, at: usize) -> Source<'t>
-        ensures { (count : ℕ) × (result.text.now ≡ take count (drop at self.now.text.now)) }
+        ensures { (count : ℕ) × (result.text.now ≡ take count (drop at self.now.text.now)) × IsWhole (drop at self.now.text.now) count }
     {
         let text = self.text.get(at..).unwrap_or(&[]);
         Source {
@@ -164,37 +165,22 @@ pub(crate) fn is_space(byte: u8) -> bool {
 
 /// How many bytes of a text the JSON value is with which the text begins.
 pub(crate) fn value_length(text: &[u8]) -> usize
-    ensures { result ≤ length text.now }
+    ensures within { result ≤ length text.now }
+    ensures whole { IsWhole text.now result }
 {
     let mut depth = 0usize;
-    let mut quoted = false;
-    let mut escaped = false;
+    let mut within = Within::Between;
     for at in 0..text.len() {
         let byte = text[at];
-        if quoted {
-            let closes = byte == b'"' && !escaped;
-            escaped = byte == b'\\' && !escaped;
-            quoted = !closes;
-            if closes && depth == 0 {
-                return at + 1;
-            }
-            continue;
+        match (within, byte) {
+            (Within::Text, b'"') if depth == 0 => return at + 1,
+            (Within::Between, b'{' | b'[') => depth = depth.saturating_add(1),
+            (Within::Between, b'}' | b']') if depth <= 1 => return at + depth,
+            (Within::Between, b'}' | b']') => depth -= 1,
+            (Within::Between, b',' | b' ' | b'\t' | b'\n' | b'\r') if depth == 0 => return at,
+            _ => {}
         }
-        match byte {
-            b'"' => quoted = true,
-            b'{' | b'[' => depth = depth.saturating_add(1),
-            b'}' | b']' => {
-                if depth <= 1 {
-                    return at + depth;
-                }
-                depth -= 1;
-            }
-            _ => {
-                if depth == 0 && (is_space(byte) || byte == b',') {
-                    return at;
-                }
-            }
-        }
+        within = within.behind(char::from(byte));
     }
     text.len()
 }

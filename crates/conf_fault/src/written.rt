@@ -7,7 +7,7 @@ use std::alloc::{AllocError, Global};
 
 /// Where a character of a JSON value stands: between texts, in one, or in one behind a backslash that does something to it.
 #[derive(Clone, Copy)]
-enum Within {
+pub(crate) enum Within {
     Between,
     Text,
     Escape,
@@ -25,7 +25,7 @@ impl Within {
     }
 
     /// Where the character behind it stands.
-    fn behind(self, character: char) -> Within
+    pub(crate) fn behind(self, character: char) -> Within
         ensures { result ≡ place_behind self character }
     {
         match self {
