@@ -1,6 +1,6 @@
 -- The explanation of a configuration's fault: where it stands in the text, the way to it, what stands there, and what was expected. Whatever it
 -- shows of the configuration, it stays on one line.
-use Rattle.std.specs.Prelude.{◌≡◌, ◌⊎◌, List, [], ◌∷◌, ◌++◌, ℕ, Option, Some, None, MatchOption, if◌then◌else◌, ◌==◌, codes, drop, encode_utf8, string_bytes, decimal, take}
+use Rattle.std.specs.Prelude.{◌≡◌, ◌<◌, ◌≤◌, ◌⊎◌, List, [], ◌∷◌, ◌++◌, ℕ, IsUtf8, Option, Some, None, MatchOption, if◌then◌else◌, ◌==◌, codes, drop, encode_utf8, length, min, string_bytes, decimal, take}
 use Rattle.std.specs.List.{flat_map}
 use Rattle.conf_tree.specs.declared.step.Step.{Step}
 use Rattle.conf_tree.specs.declared.step.Step.TheVariants.{Key, Index}
@@ -117,9 +117,17 @@ abbrev pub character_words : ℕ → List ℕ
 character_words c = if c == 65279 then codes "a byte order mark" else codes "`" ++ encode_utf8 c ++ codes "`"
 
 -- what stands at the front of some bytes: their end, their first character, or a byte that begins none
+-- a character in UTF-8 with which some bytes begin
+abbrev pub BeginsWith : List ℕ → ℕ → Type 0
+BeginsWith bytes c = (others : List ℕ) × (bytes ≡ encode_utf8 c ++ others)
+
+-- none with which they do: no more than 4 bytes are a character, and no first 1 to 4 of these are UTF-8
+abbrev pub BeginsNone : List ℕ → Type 0
+BeginsNone bytes = (count : ℕ) → 0 < count → count ≤ min (length bytes) 4 → ¬ IsUtf8 (take count bytes)
+
 abbrev pub IsFoundWords : List ℕ → List ℕ → Type 0
 IsFoundWords bytes words = ((bytes ≡ []) × (words ≡ codes "the end of the text"))
-    ⊎ (((c : ℕ) × (others : List ℕ) × (bytes ≡ encode_utf8 c ++ others) × (words ≡ character_words c)) ⊎ (words ≡ codes "a byte that is no UTF-8"))
+    ⊎ (((c : ℕ) × BeginsWith bytes c × (words ≡ character_words c)) ⊎ ((0 < length bytes) × BeginsNone bytes × (words ≡ codes "a byte that is no UTF-8")))
 
 -- a text that is no JSON: a place in it, what stands just there, and what was expected by the reason for which the text goes on no further
 pub record IsNotJson (text said : List ℕ) : Type 0 where

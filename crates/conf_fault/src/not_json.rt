@@ -1,8 +1,8 @@
 //! Where a text stops being JSON, and whether it looks like YAML.
 
-ghost use Rattle.std.specs.Prelude.{◌≡◌, ◌++◌, List, ℕ, encode_utf8, IfOk, IfSome, OnOk, string_bytes};
+ghost use Rattle.std.specs.Prelude.{◌≡◌, ◌++◌, IfOk, MatchOption, OnOk, string_bytes};
 ghost use Rattle.conf_fault.specs.LineColumn.{IsPlaceIn};
-ghost use Rattle.conf_fault.specs.Explanation.{Adds, IsFoundWords, IsNotJson, character_words};
+ghost use Rattle.conf_fault.specs.Explanation.{Adds, BeginsNone, BeginsWith, IsFoundWords, IsNotJson, character_words};
 ghost use Rattle.conf_fault.specs.Stop.{IsStop};
 
 use crate::json_front::longest_front;
@@ -75,10 +75,10 @@ fn push_quoted(said: &mut String, character: char) -> Result<(), AllocError>
 
 /// The character in UTF-8 with which some bytes begin.
 fn first_character(bytes: &[u8]) -> Option<char>
-    ensures { IfSome result (λ c. (others : List ℕ) × (bytes.now ≡ encode_utf8 c ++ others)) }
+    ensures { MatchOption result (BeginsNone bytes.now) (BeginsWith bytes.now) }
 {
-    for len in 1..=bytes.len().min(4) {
-        if let Ok(text) = str::from_utf8(&bytes[..len]) {
+    for len in 0..bytes.len().min(4) {
+        if let Ok(text) = str::from_utf8(&bytes[..len + 1]) {
             return text.chars().next();
         }
     }
