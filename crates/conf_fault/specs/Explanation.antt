@@ -9,6 +9,7 @@ use Rattle.conf_tree.specs.declared.fault_kind.FaultKind.{FaultKind}
 use Rattle.conf_tree.specs.declared.fault_kind.FaultKind.TheVariants.{NotJson, TooDeep, Unknown, InheritCycle, BadName, ReservedName, NameClash, ZeroSizeRecord, TwoOrders, OutOfMemory}
 use Rattle.conf_tree.specs.declared.limits.TheConstants.{MAX_LEVELS}
 use Rattle.conf_fault.specs.declared.line_column.LineColumn.{LineColumn}
+use Rattle.conf_fault.specs.Found.{StandsIn}
 use Rattle.conf_fault.specs.LineColumn.{IsPlaceAt}
 use Rattle.conf_fault.specs.declared.stop.Reason.{Reason}
 use Rattle.conf_fault.specs.Shown.{cut, shown}
@@ -41,9 +42,9 @@ unfoldable pub path_words : List Step → List ℕ
 path_words [] = []
 path_words (step ∷ steps) = step_words step ++ flat_map further_step steps ++ codes ": "
 
--- the alias in which it stands, where it stands in one
-abbrev pub IsAliasWords : List ℕ → Type 0
-IsAliasWords words = (words ≡ []) ⊎ ((name : List ℕ) × (words ≡ codes "in the alias `" ++ cut name ++ codes "`: "))
+-- the alias in which it stands, where it stands in one: a word in quotes of the text
+abbrev pub IsAliasWords : List ℕ → List ℕ → Type 0
+IsAliasWords text words = (words ≡ []) ⊎ ((name : List ℕ) × StandsIn text name × (words ≡ codes "in the alias `" ++ cut name ++ codes "`: "))
 
 -- ---- what stands there
 
@@ -103,7 +104,7 @@ pub record IsPlaced (text : List ℕ) (fault : ConfFault) (said : List ℕ) : Ty
   pub standing : List ℕ
   pub wanted : List ℕ
   pub lies : IsPlaceAt text at place
-  pub in_alias : IsAliasWords alias
+  pub in_alias : IsAliasWords text alias
   pub stands : IsStanding fault.kind text at standing
   pub expects : IsWanted text fault wanted
   pub is : said ≡ place_words place ++ path_words fault.path ++ alias ++ standing ++ codes ": expected " ++ wanted
@@ -116,7 +117,6 @@ IsYamlHint hint = (hint ≡ []) ⊎ (hint ≡ codes "; this looks like YAML, of 
 abbrev pub character_words : ℕ → List ℕ
 character_words c = if c == 65279 then codes "a byte order mark" else codes "`" ++ encode_utf8 c ++ codes "`"
 
--- what stands at the front of some bytes: their end, their first character, or a byte that begins none
 -- a character in UTF-8 with which some bytes begin
 abbrev pub BeginsWith : List ℕ → ℕ → Type 0
 BeginsWith bytes c = (others : List ℕ) × (bytes ≡ encode_utf8 c ++ others)
@@ -125,6 +125,7 @@ BeginsWith bytes c = (others : List ℕ) × (bytes ≡ encode_utf8 c ++ others)
 abbrev pub BeginsNone : List ℕ → Type 0
 BeginsNone bytes = (count : ℕ) → 0 < count → count ≤ min (length bytes) 4 → ¬ IsUtf8 (take count bytes)
 
+-- what stands at the front of some bytes: their end, their first character, or a byte that begins none
 abbrev pub IsFoundWords : List ℕ → List ℕ → Type 0
 IsFoundWords bytes words = ((bytes ≡ []) × (words ≡ codes "the end of the text"))
     ⊎ (((c : ℕ) × BeginsWith bytes c × (words ≡ character_words c)) ⊎ ((0 < length bytes) × BeginsNone bytes × (words ≡ codes "a byte that is no UTF-8")))

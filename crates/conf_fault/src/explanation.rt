@@ -77,7 +77,7 @@ fn push_step(alloc: Global, said: &mut String, step: &Step) -> Result<(), AllocE
 }
 
 fn push_alias(source: Source<'_>, said: &mut String, alias: Option<usize>) -> Result<(), AllocError>
-    ensures { OnOk result (Adds IsAliasWords (string_bytes said.old) (string_bytes said.new)) }
+    ensures { OnOk result (Adds (IsAliasWords source.entry.text.now) (string_bytes said.old) (string_bytes said.new)) }
 {
     let Some(at) = alias else {
         return Ok(());
