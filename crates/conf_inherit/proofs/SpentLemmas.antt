@@ -10,7 +10,7 @@ use Rattle.conf_inherit.specs.{AliasFlaws.{open_in, alias_flaws, all_alias_flaws
 use Rattle.conf_inherit.specs.Rounds.{Outcomes, has_outcome, is_over, is_empty, if_fitting, outcome, step, round, rounds, no_outcomes, Reached, at_first, turned, all_settled}
 use Rattle.conf_inherit.proofs.LayingLemmas.{above_of, above_through, get_none, same, other, meets, get_other, get_same, same_function, stands, some_is_none, AllEntries, found_each}
 use Rattle.conf_inherit.proofs.{RoundLemmas.{Agrees, count}, LimitLemmas.{alike_flaws, alike_in}}
-use Rattle.conf_inherit.proofs.{TurnLemmas.{none_of, IsSettled, step_agrees, round_grows, turns_are_rounds}}
+use Rattle.conf_inherit.proofs.{TurnLemmas.{none_of, IsSettled, step_agrees, settled_round, is_settled_state, round_grows, turns_are_rounds}}
 use Rattle.conf_tree.specs.{Flaw.{key, within}, declared.fault_kind.FaultKind.FaultKind, declared.fault_kind.FaultKind.TheVariants.{NoSuchAlias, InheritCycle}}
 use Rattle.conf_table.specs.declared.place.Place.{Place}
 use Rattle.conf_table.specs.declared.place.Place.TheVariants as places
@@ -203,3 +203,10 @@ settled_rounds al left st apart turns settled = turns_are_rounds al apart turns.
       | inl done ↦ or_left (has st.done k) (has st.refused k) done
       | inr free ↦ settled k w (same_body st.done al left turns.spends k free ∙ is) (same_due al left (same_names st.done al left turns.spends) st w ∙ due)
     ]
+
+-- where no alias was due in the last round, the outcomes are those of the rounds
+pub last_round : (al left : Members) (st after : Outcomes) → NoClash al → TurnsLeave al st left → all_settled left left st ≡ true → after ≡ round left left st
+    → (after ≡ rounds al (members_len al) no_outcomes) × Spends after.done al left
+last_round al left st after apart turns is went =
+    let stays : after ≡ st = went ∙ settled_round left left st is in
+    (stays ∙ settled_rounds al left st apart turns (is_settled_state left st is), subst (λ x. Spends x.done al left) (sym stays) turns.spends)

@@ -1,9 +1,9 @@
 //! Resolves the aliases in the order in which they depend on one another.
-ghost use Rattle.std.specs.{Prelude.{◌≡◌, false, Some, OnOk, IfOk, IfErr, option_map, string_bytes}, BTreeMap.btree_map_len};
+ghost use Rattle.std.specs.{Prelude.{◌≡◌, not, false, Some, OnOk, IfOk, IfErr, option_map, string_bytes}, BTreeMap.btree_map_len};
 ghost use Rattle.serde_json.specs.{Data.Members, View.{view, members_view}};
 ghost use Rattle.conf_tree.specs.Flaw.{IsMemory};
 ghost use Rattle.conf_inherit.specs.{AliasOutcomes.outcomes_of, Flaws.flaws, Names.NoClash, Named.{all_named, has}};
-ghost use Rattle.conf_inherit.specs.{Rounds.{is_over, outcome, step, round, all_settled, rounds, no_outcomes}, Spent.{Spends, TurnsLeave}};
+ghost use Rattle.conf_inherit.specs.{Rounds.{is_over, outcome, step, round, is_settled, all_settled, rounds, no_outcomes}, Spent.{Spends, TurnsLeave}};
 
 use crate::flaws::check_value;
 use crate::limits::fit;
@@ -52,33 +52,26 @@ impl Turns {
         outcomes.has_outcome(name) || self.visits_of(name) >= MOST_VISITS
     }
 
-    /// Whether it is the turn of the alias that came up. Where others without an outcome are named in it, they come up
-    /// first, and then it again: at first the first of them, since one name often leads to all others, then all. An
-    /// alias that waits still when it comes up again leads into a circle, and has its turn once.
-    fn is_due(
+    /// Puts the alias that came up behind those without an outcome that it names: at first behind the first of them, since
+    /// one name often leads to all others, then behind all. One that waits still when it comes up again leads into a
+    /// circle, and comes up no more.
+    fn wait(
         &mut self,
-        alloc: Global,
         name: &String,
         value: &Value,
         aliases: &Map<String, Value>,
         outcomes: &AliasOutcomes,
-    ) -> Result<bool, AllocError> {
+    ) -> Result<(), AllocError> {
         let visits = self.visits_of(name.as_str());
         drop(self.visits.insert(name.clone()?, visits.saturating_add(1))?);
         let most = match visits {
-            0 => 1,
+            0 => self.names.len().saturating_add(2),
             1 => usize::MAX,
-            _ => return Ok(true),
+            _ => return Ok(()),
         };
-        let mut waiting = Vec::new(alloc);
-        let asked = Asked::IsOver { aliases, outcomes };
-        push_failing(value, Place::FieldType, asked, most, &mut waiting)?;
-        if waiting.is_empty() {
-            return Ok(true);
-        }
         self.names.push(name.clone()?)?;
-        self.names.append(&mut waiting)?;
-        Ok(false)
+        let asked = Asked::IsOver { aliases, outcomes };
+        push_failing(value, Place::FieldType, asked, most, &mut self.names)
     }
 }
 
@@ -114,29 +107,38 @@ fn outcome(
     Ok(fit(alloc, value, Place::FieldType, resolved)?.ok())
 }
 
-/// Gives an alias its outcome, if all that it names have theirs. `known` says whether all that it names is resolved.
+/// Gives an alias that has no outcome its own, if all that it names have theirs, and answers whether it was due. The
+/// body of one that has its outcome is not read.
 #[tactic(auto, using(crate::proofs::RoundLemmas::resolved_due))]
 fn step(
     alloc: Global,
     name: &String,
     value: &Value,
-    known: bool,
     aliases: &Map<String, Value>,
     outcomes: &mut AliasOutcomes,
-) -> Result<(), ConfFault>
-    requires known { known ≡ all_named (has (outcomes_of outcomes.old).done) Place.FieldType (view value.now) }
+) -> Result<bool, ConfFault>
     ensures stepped { OnOk result (outcomes_of outcomes.new
         ≡ step (members_view aliases.now.entries) (string_bytes name.now) (view value.now) (outcomes_of outcomes.old)) }
+    ensures due { IfOk result (λ due. due
+        ≡ not (is_settled (members_view aliases.now.entries) (outcomes_of outcomes.old) (string_bytes name.now) (view value.now))) }
     ensures memory { IfErr result IsMemory }
 {
-    if outcomes.has_outcome(name.as_str()) || !(known || is_due(value, aliases, outcomes)) {
-        return Ok(());
+    if outcomes.has_outcome(name.as_str()) {
+        return Ok(false);
+    }
+    let asked = Asked::IsResolved(&outcomes.resolved);
+    let known = all_named(value, Place::FieldType, asked);
+    if !(known || is_due(value, aliases, outcomes)) {
+        return Ok(false);
     }
     let noted = match outcome(alloc, value, known, aliases, &outcomes.resolved)? {
         Some(alias) => outcomes.resolve(name, alias),
         None => outcomes.refuse(name),
     };
-    noted.map_err(|_| ConfFault::memory(alloc))
+    match noted {
+        Ok(()) => Ok(true),
+        Err(_) => Err(ConfFault::memory(alloc)),
+    }
 }
 
 /// Whether all aliases that a value names have an outcome.
@@ -146,34 +148,25 @@ fn is_due(value: &Value, aliases: &Map<String, Value>, outcomes: &AliasOutcomes)
     all_named(value, Place::FieldType, Asked::IsOver { aliases, outcomes })
 }
 
-/// One round over the aliases.
+/// One round over the aliases. It answers whether one was due, and so got its outcome.
 fn round(
     alloc: Global,
     aliases: &Map<String, Value>,
     outcomes: &mut AliasOutcomes,
-) -> Result<(), ConfFault>
+) -> Result<bool, ConfFault>
     ensures turned { OnOk result (outcomes_of outcomes.new
         ≡ round (members_view aliases.now.entries) (members_view aliases.now.entries) (outcomes_of outcomes.old)) }
+    ensures due { IfOk result (λ due. due
+        ≡ not (all_settled (members_view aliases.now.entries) (members_view aliases.now.entries) (outcomes_of outcomes.old))) }
     ensures memory { IfErr result IsMemory }
 {
+    let mut due = false;
     for (name, value) in aliases.iter() {
-        let asked = Asked::IsResolved(&outcomes.resolved);
-        let known = all_named(value, Place::FieldType, asked);
-        step(alloc, name, value, known, aliases, outcomes)?;
-    }
-    Ok(())
-}
-
-/// Whether each alias has an outcome, or names one that has none.
-fn all_settled(aliases: &Map<String, Value>, outcomes: &AliasOutcomes) -> bool
-    ensures { result ≡ all_settled (members_view aliases.now.entries) (members_view aliases.now.entries) (outcomes_of outcomes.now) }
-{
-    for (name, value) in aliases.iter() {
-        if !outcomes.has_outcome(name.as_str()) && is_due(value, aliases, outcomes) {
-            return false;
+        if step(alloc, name, value, aliases, outcomes)? {
+            due = true;
         }
     }
-    true
+    Ok(due)
 }
 
 /// Gives an alias that came up its turn, if those that it names had theirs. Once it is resolved its body is dropped,
@@ -195,16 +188,11 @@ fn take_turn(
     let Some(value) = property(aliases, name.as_str()) else {
         return Ok(());
     };
-    let asked = Asked::IsResolved(&outcomes.resolved);
-    let known = all_named(value, Place::FieldType, asked);
-    let due = known
-        || turns
-            .is_due(alloc, name, value, aliases, outcomes)
-            .map_err(|_| ConfFault::memory(alloc))?;
-    if !due {
-        return Ok(());
+    if !step(alloc, name, value, aliases, outcomes)? {
+        return turns
+            .wait(name, value, aliases, outcomes)
+            .map_err(|_| ConfFault::memory(alloc));
     }
-    step(alloc, name, value, known, aliases, outcomes)?;
     if has(&outcomes.resolved, name.as_str()) {
         drop(take_property(aliases, name.as_str()));
     }
@@ -248,10 +236,10 @@ pub(crate) fn settle_aliases(
     let mut outcomes = AliasOutcomes::new(alloc);
     take_turns(alloc, aliases, &mut outcomes)?;
     for _turn in 0..count {
-        if all_settled(aliases, &outcomes) {
+        let due = round(alloc, aliases, &mut outcomes)?;
+        if !due {
             return Ok(outcomes);
         }
-        round(alloc, aliases, &mut outcomes)?;
     }
     Ok(outcomes)
 }
