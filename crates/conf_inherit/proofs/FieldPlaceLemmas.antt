@@ -22,6 +22,10 @@ pub aliases_place : place_under places.TraceType aliases_name ≡ places.FieldTy
 unfolding place_under content_under entries_of rows_of place_in field_place aliases_name
 aliases_place = refl
 
+pub alias_type_place : (n : List ℕ) → place_under places.FieldTypeAliases n ≡ places.FieldType
+unfolding place_under content_under entries_of rows_of place_in field_place
+alias_type_place n = refl
+
 pub entry_place : (n : List ℕ) → place_under places.Entry n ≡ places.Member
 unfolding place_under content_under entries_of rows_of place_in field_place
 entry_place n = refl

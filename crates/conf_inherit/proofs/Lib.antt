@@ -12,5 +12,6 @@ pub mod RefusalLemmas
 pub mod TurnLemmas
 pub mod SpentLemmas
 pub mod TakenLemmas
+pub mod FaultOrderLemmas
 pub mod WorkedPlaces
 pub mod WorkedRows

@@ -210,6 +210,13 @@ of_aliases P within t h d is =
     let (trace, in_root, in_type) = both_there (get type_name) (get trace_name t) type in_trace in
     within aliases_name type d (within type_name trace type (within trace_name t trace h in_root) in_type) found
 
+-- the aliases of a configuration are what stands in their place
+pub aliases_found : (t trace type found : Data) → get trace_name t ≡ Some trace → get type_name trace ≡ Some type → get aliases_name type ≡ Some found → aliases_of t ≡ members_or_none (Some found)
+aliases_found t trace type found in_root in_trace in_type =
+    ap (λ o. members_or_none (option_and_then (get aliases_name) (option_and_then (get type_name) o))) in_root
+    ∙ ap (λ o. members_or_none (option_and_then (get aliases_name) o)) in_trace
+    ∙ ap members_or_none in_type
+
 of_its_members : (o : Option Data) → ((d : Data) → o ≡ Some d → IsClean d) → AllMembers (members_or_none o)
 of_its_members (Some (object ms)) h = of_object ms (h (object ms) refl)
 of_its_members _ h = tt
@@ -265,12 +272,15 @@ property_in_order : (k : List ℕ) (d e : Data) → Ascends d → get k d ≡ So
 property_in_order k (object ms) e h is = member_in_order ms k e h.1 (has_found k e ms is)
 property_in_order k _ e h is = cc
 
-members_apart : (o : Option Data) → ((d : Data) → o ≡ Some d → Ascends d) → NoClash (members_or_none o)
-members_apart (Some (object ms)) h = apart ms (h (object ms) refl).0
-members_apart _ h = tt
+members_in_turn : (o : Option Data) → ((d : Data) → o ≡ Some d → Ascends d) → IsInOrder (members_or_none o)
+members_in_turn (Some (object ms)) h = (h (object ms) refl).0
+members_in_turn _ h = tt
+
+pub aliases_in_order : (t : Data) → Ascends t → IsInOrder (aliases_of t)
+aliases_in_order t ordered = members_in_turn _ (of_aliases Ascends property_in_order t ordered)
 
 pub aliases_apart : (text : List ℕ) (t : Data) → IsTreeOf text t → NoClash (aliases_of t)
-aliases_apart text t tree = members_apart _ (of_aliases Ascends property_in_order t (read_in_order text t tree.0.1))
+aliases_apart text t tree = apart (aliases_of t) (aliases_in_order t (read_in_order text t tree.0.1))
 
 -- ---- entries without a clash
 

@@ -4,7 +4,7 @@ use Rattle.std.proofs.lemmas.Bool.{cases_Bool, or_cases, or_from, true≢false}
 use Rattle.std.specs.Prelude.{⊤}
 use Rattle.serde_json.specs.{Data.{Data, array, object, Members, no_members, member}, Events.members_len}
 use Rattle.serde_json.specs.Find.{get, get_member}
-use Rattle.conf_tree.specs.{Flaw.{Flaw, key, here, within, Place as Step}, Reading.◌>>=◌, Walk.{HasMember, refusal, IsTreeOf}}
+use Rattle.conf_tree.specs.{Flaw.{Flaw, key, here, within, Place as Step}, Order.Ascends, Reading.◌>>=◌, Walk.{HasMember, refusal, IsTreeOf}}
 use Rattle.conf_tree.specs.{declared.fault_kind.FaultKind.FaultKind, declared.fault_kind.FaultKind.TheVariants.{InheritCycle, Limit, WrongKind, NoSuchAlias}}
 use Rattle.conf_tree.specs.declared.limits.TheConstants.{MAX_LEVELS}
 use Rattle.conf_table.specs.{declared.place.Place.Place, Table.{content_under, entries_of, rows_of, place_in}}
@@ -15,7 +15,7 @@ use Rattle.conf_inherit.specs.{Faults.{Passes, FlawHolds, RefusalHolds, Leads, T
 use Rattle.conf_inherit.specs.Nesting.{deep_flaws, PassesDepth}
 use Rattle.conf_inherit.specs.Resolution.{members_or_none, trace_name, type_name, aliases_name, aliases_of, in_aliases, from_aliases, if_shallow, resolution, Resolves}
 use Rattle.conf_inherit.proofs.SizeLemmas.{deep_told, depth_excluded}
-use Rattle.conf_inherit.proofs.RoundLemmas.{rounds_of, TreeSound, tree_sound, laid_resolves, resolution_sound, no_flaws, circle_refused, rounds_resolved, rounds_reached, all_done}
+use Rattle.conf_inherit.proofs.RoundLemmas.{rounds_of, tree_sound, laid_resolves, resolution_sound, no_flaws, no_circle, rounds_resolved, rounds_reached, all_done}
 use Rattle.conf_inherit.proofs.{LimitLemmas.{limits_told, apart_fits}, LookedUp.{no_twice, one_look, both_there, read_in_order, aliases_apart}, LaysOver.lays}
 use Rattle.conf_inherit.proofs.{FieldPlaceLemmas.{trace_place, trace_type_place, aliases_place, alias_named, base_place}, TurnLemmas.rounds_open}
 use Rattle.conf_inherit.proofs.FaultLemmas.{joined_empty, OwnSound, own_sound, Each, no_flaw, a_flaw, joined, each_along, part, first_told, HoldsOr, holds_told, holds_in_object, flaws_told, SoundAt, sound_entries}
@@ -41,7 +41,7 @@ module _ (al : Members) where
       | inr e ↦ (let same : Some NoSuchAlias ≡ Some kind = rw e at h in inr (let one : kind ≡ NoSuchAlias = cc in one, e))
     ]
 
-    known_holds : (outside : Bool) (s : Place) (v : Data) → Each (FlawHolds al s v) (value_flaws (known_in al) (Some done) outside s false no_members v)
+    pub known_holds : (outside : Bool) (s : Place) (v : Data) → Each (FlawHolds al s v) (value_flaws (known_in al) (Some done) outside s false no_members v)
     known_holds outside s v =
         each_along (λ f h. elim h [ inl bad ↦ absurd bad | inr x ↦ x ]) (flaws_told (known_in al) (Some done) true (HoldsOr (λ kind. ⊥) al) (holds_told (λ kind. ⊥) al (known_in al) no_alias (Some done) limits_hold) outside (λ h. refl) s v)
 
@@ -118,11 +118,11 @@ lift_aliases al t f some h =
 
 -- ---- a refusal
 
-err_aliases : (a : Result ⊤ Flaw) (k : ⊤ → Result Data Flaw) (f : Flaw) → (from_aliases a >>= k) ≡ Err f → ((g : Flaw) × (a ≡ Err g) × (f ≡ in_aliases g)) ⊎ ((a ≡ Ok tt) × (k tt ≡ Err f))
+pub err_aliases : (a : Result ⊤ Flaw) (k : ⊤ → Result Data Flaw) (f : Flaw) → (from_aliases a >>= k) ≡ Err f → ((g : Flaw) × (a ≡ Err g) × (f ≡ in_aliases g)) ⊎ ((a ≡ Ok tt) × (k tt ≡ Err f))
 err_aliases (Ok x) k f h = inr (refl, h)
 err_aliases (Err g) k f h = inl (g, refl, let e : f ≡ in_aliases g = cc in e)
 
-err_then : (a : Result ⊤ Flaw) (k : ⊤ → Result Data Flaw) (f : Flaw) → (a >>= k) ≡ Err f → (a ≡ Err f) ⊎ ((a ≡ Ok tt) × (k tt ≡ Err f))
+pub err_then : (a : Result ⊤ Flaw) (k : ⊤ → Result Data Flaw) (f : Flaw) → (a >>= k) ≡ Err f → (a ≡ Err f) ⊎ ((a ≡ Ok tt) × (k tt ≡ Err f))
 err_then (Ok x) k f h = inr (refl, h)
 err_then (Err g) k f h = inl (let e : g ≡ f = cc in ap (λ x. Err x) e)
 
@@ -130,7 +130,7 @@ err_shallow : (x : Data) (f : Flaw) → if_shallow x ≡ Err f → PassesDepth M
 err_shallow x f h = elim (err_then (refusal (deep_flaws x MAX_LEVELS)) (λ a. Ok x) f h) [ inl e ↦ first_told f (deep_told x MAX_LEVELS) e | inr e ↦ absurd (let o : Result Data Flaw = Ok x in let bad : o ≡ Err f = e.1 in cc) ]
 
 module _ (t : Data) (f : Flaw) (apart : NoClash (aliases_of t)) where
-  alias_refused : (g : Flaw) → refusal (all_alias_flaws (aliases_of t) (rounds_of t) (aliases_of t)) ≡ Err g → FlawHolds (aliases_of t) places.Root t (in_aliases g)
+  pub alias_refused : (g : Flaw) → refusal (all_alias_flaws (aliases_of t) (rounds_of t) (aliases_of t)) ≡ Err g → FlawHolds (aliases_of t) places.Root t (in_aliases g)
   alias_refused g h =
       let each = found_each (aliases_of t) apart in
       let known = rounds_resolved (aliases_of t) (members_len (aliases_of t)) each in
@@ -162,7 +162,7 @@ resolved_or_refused t apart = go (resolution t) refl
 
 -- ---- all of a tree that has a resolution
 
-told_excluded : (aliases : Members) (kind : FaultKind) (s : Place) (w : Data) → SoundAt aliases s w → ¬ Tells aliases kind s w
+pub told_excluded : (aliases : Members) (kind : FaultKind) (s : Place) (w : Data) → SoundAt aliases s w → ¬ Tells aliases kind s w
 told_excluded aliases kind s w h told = go kind told
   where
     own : OwnSound (known_in aliases) s h.taken w
@@ -174,46 +174,49 @@ told_excluded aliases kind s w h told = go kind told
     go Limit told = true≢false (sym told ∙ own.few)
     go _ told = absurd told
 
-module _ (text : List ℕ) (t r : Data) (tree : IsTreeOf text t) (h : resolution t ≡ Ok r) where
-  apart : NoClash (aliases_of t)
-  apart = aliases_apart text t tree
-
-  sound : TreeSound t r
-  sound = tree_sound t r h
-
-  abbrev done : Members
+module _ (t : Data) (apart : NoClash (aliases_of t)) (outcomes : all_alias_flaws (aliases_of t) (rounds_of t) (aliases_of t) ≡ []) where
+  abbrev pub done : Members
   done = (rounds_of t).done
 
-  known : AreResolved (aliases_of t) done
+  pub known : AreResolved (aliases_of t) done
   known = rounds_resolved (aliases_of t) (members_len (aliases_of t)) (found_each (aliases_of t) apart)
 
-  all_known : (n : List ℕ) → has (aliases_of t) n ≡ true → has done n ≡ true
-  all_known = all_done (aliases_of t) (rounds_of t) sound.outcomes (rounds_reached (aliases_of t) (members_len (aliases_of t)) (found_each (aliases_of t) apart))
-
-  fit : (path : List Step) (s : Place) (w : Data) → Leads places.Root t path s w → IsFit (aliases_of t) done known all_known s w
-  fit path s w leads = fit_along (aliases_of t) done known all_known path places.Root t s w (root_fit (aliases_of t) done known all_known t (read_in_order text t tree.0.1) sound.whole) leads
-
-  sound_at : (path : List Step) (s : Place) (w : Data) → Leads places.Root t path s w → SoundAt (aliases_of t) s w
-  sound_at path s w leads = fit_sound (aliases_of t) done known all_known s w (fit path s w leads)
+  pub all_known : (n : List ℕ) → has (aliases_of t) n ≡ true → has done n ≡ true
+  all_known = all_done (aliases_of t) (rounds_of t) outcomes (rounds_reached (aliases_of t) (members_len (aliases_of t)) (found_each (aliases_of t) apart))
 
   -- what a value is laid to is what it is looked up as, under whatever resolved aliases
   laid : (others : Members) (s : Place) (w : Data) → AreResolved (aliases_of t) others → SoundAt (aliases_of t) s w → all_named (has others) s w ≡ true → Looks (aliases_of t) s (w ∷ []) (lay others s w None)
   laid others s w resolved at named = lays (aliases_of t) others resolved w s at named [] None refl
 
-  passes_excluded : (kind : FaultKind) (path : List Step) (s : Place) (w : Data) → Leads places.Root t path s w → ¬ Passes (aliases_of t) kind s w
-  passes_excluded kind path s w leads (names, (others, resolved, named, past)) =
-      let at = sound_at path s w leads in
-      let mine = laid done s w known at (sound_named (aliases_of t) done known all_known s w at) in
-      let same = one_look (aliases_of t) (laid others s w resolved at named) mine in
-      apart_fits kind (lay done s w None) (type_fit (aliases_of t) done known all_known s w (fit path s w leads) names) (subst (Exceeds kind) same past)
+  -- all that stands in a value that fits does so too
+  module _ (top : Place) (v : Data) (whole : IsFit (aliases_of t) done known all_known top v) where
+    fit : (path : List Step) (s : Place) (w : Data) → Leads top v path s w → IsFit (aliases_of t) done known all_known s w
+    fit path s w leads = fit_along (aliases_of t) done known all_known path top v s w whole leads
 
-  flaw_excluded : (flaw : Flaw) → ¬ FlawHolds (aliases_of t) places.Root t flaw
-  flaw_excluded flaw (inl (s, w, leads, inl told)) = told_excluded (aliases_of t) flaw.kind s w (sound_at flaw.path s w leads) told
-  flaw_excluded flaw (inl (s, w, leads, inr past)) = passes_excluded flaw.kind flaw.path s w leads past
-  flaw_excluded flaw (inr (inl (kind, (front, s, es, i, j, n, is, leads, lists, before, first, second)))) = no_twice es i j n (sound_entries (aliases_of t) s es lists (sound_at front s (array es) leads)) before first second
-  flaw_excluded flaw (inr (inr (kind, (front, k, is, leads, walks)))) = circle_refused t r k apart walks h
+    sound_at : (path : List Step) (s : Place) (w : Data) → Leads top v path s w → SoundAt (aliases_of t) s w
+    sound_at path s w leads = fit_sound (aliases_of t) done known all_known s w (fit path s w leads)
 
-  -- no fault of inheritance holds of it
-  pub refusal_excluded : (flaw : Flaw) → ¬ RefusalHolds t flaw
-  refusal_excluded flaw (inl holds) = flaw_excluded flaw holds
-  refusal_excluded flaw (inr (s, looked, deep)) = depth_excluded r MAX_LEVELS flaw sound.shallow (subst (λ x. PassesDepth MAX_LEVELS x flaw) (one_look (aliases_of t) looked (resolution_sound t r apart h).0) deep)
+    passes_excluded : (kind : FaultKind) (path : List Step) (s : Place) (w : Data) → Leads top v path s w → ¬ Passes (aliases_of t) kind s w
+    passes_excluded kind path s w leads (names, (others, resolved, named, past)) =
+        let at = sound_at path s w leads in
+        let mine = laid done s w known at (sound_named (aliases_of t) done known all_known s w at) in
+        let same = one_look (aliases_of t) (laid others s w resolved at named) mine in
+        apart_fits kind (lay done s w None) (type_fit (aliases_of t) done known all_known s w (fit path s w leads) names) (subst (Exceeds kind) same past)
+
+    -- so no flaw holds in it
+    pub fit_excluded : (flaw : Flaw) → ¬ FlawHolds (aliases_of t) top v flaw
+    fit_excluded flaw (inl (s, w, leads, inl told)) = told_excluded (aliases_of t) flaw.kind s w (sound_at flaw.path s w leads) told
+    fit_excluded flaw (inl (s, w, leads, inr past)) = passes_excluded flaw.kind flaw.path s w leads past
+    fit_excluded flaw (inr (inl (kind, (front, s, es, i, j, n, is, leads, lists, before, first, second)))) = no_twice es i j n (sound_entries (aliases_of t) s es lists (sound_at front s (array es) leads)) before first second
+    fit_excluded flaw (inr (inr (kind, (front, k, is, leads, walks)))) = no_circle t k apart outcomes walks
+
+  -- nor in the whole, where nothing was found in it
+  pub whole_excluded : Ascends t → whole_flaws (aliases_of t) done t ≡ [] → (flaw : Flaw) → ¬ FlawHolds (aliases_of t) places.Root t flaw
+  whole_excluded ordered none flaw holds = fit_excluded places.Root t (root_fit (aliases_of t) done known all_known t ordered none) flaw holds
+
+-- no fault of inheritance holds of a tree that was read and has a resolution
+pub refusal_excluded : (text : List ℕ) (t r : Data) → IsTreeOf text t → resolution t ≡ Ok r → (flaw : Flaw) → ¬ RefusalHolds t flaw
+refusal_excluded text t r tree h flaw (inl holds) =
+    whole_excluded t (aliases_apart text t tree) (tree_sound t r h).outcomes (read_in_order text t tree.0.1) (tree_sound t r h).whole flaw holds
+refusal_excluded text t r tree h flaw (inr (s, looked, deep)) =
+    depth_excluded r MAX_LEVELS flaw (tree_sound t r h).shallow (subst (λ x. PassesDepth MAX_LEVELS x flaw) (one_look (aliases_of t) looked (resolution_sound t r (aliases_apart text t tree) h).0) deep)

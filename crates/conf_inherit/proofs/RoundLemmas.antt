@@ -1,7 +1,7 @@
 -- What the rounds over the aliases leave: resolved aliases are what they are looked up as, and an alias with no
 -- outcome starts a walk as long as there were rounds.
 use Rattle.std.proofs.Common.{◌≡◌, ◌&&◌, ◌||◌, inl, inr, ℕ, zero, suc, List, [], ◌∷◌, Option, Some, None, Result, Ok, Err, is_some, Bool, true, false, not, true≢false, refl, sym, ap, ◌∙◌, subst, ◌+◌, ◌≤◌, arith, ◌<◌, if◌then◌else◌}
-use Rattle.std.proofs.lemmas.Bool.{and_parts, cases_Bool, or_parts, or_left, or_right}
+use Rattle.std.proofs.lemmas.{Bool.{and_parts, cases_Bool, or_parts, or_left, or_right}, Option.same_Some}
 use Rattle.std.specs.Prelude.{⊤}
 use Rattle.serde_json.specs.{Data.{Data, null, Members, no_members, member, put, depth}, Find.get_member, Events.members_len}
 use Rattle.serde_json.proofs.Views.{get_member-put_other}
@@ -13,8 +13,8 @@ use Rattle.conf_inherit.specs.{Limits.{fitting, passed, limit_flaws}, Looks.{Loo
 use Rattle.conf_inherit.specs.Rounds.{Outcomes, has_outcome, is_over, is_empty, if_fitting, outcome, concluded, step, round, all_over, rounds, no_outcomes, Reached, at_first, turned}
 use Rattle.conf_inherit.specs.Resolution.{aliases_of, Resolves, from_aliases, if_shallow, resolution_after, resolution_under, resolution}
 use Rattle.conf_inherit.proofs.{LimitLemmas.{kept_flaws, fitting_value}, SizeLemmas.shallow_depth}
-use Rattle.conf_inherit.proofs.LayingLemmas.{some_is_none, Meets, same, other, meets, put_found, AllEntries, entry_found, found_each, get_other}
-use Rattle.conf_inherit.proofs.{LaysOver.lays, FaultLemmas.{named, named_along, blocked, mentioned, is_still, is_put, part_empty, joined_empty, some_of}}
+use Rattle.conf_inherit.proofs.LayingLemmas.{some_is_none, same, other, meets, put_found, AllEntries, entry_found, found_each, get_other}
+use Rattle.conf_inherit.proofs.{LaysOver.lays, FaultLemmas.{named, named_along, blocked, mentioned, is_put, part_empty, joined_empty, some_of}}
 use Rattle.conf_table.specs.declared.place.Place.TheVariants as places
 
 pub empty_flaws : (fs : List Flaw) → is_empty fs ≡ true → fs ≡ []
@@ -97,6 +97,9 @@ module _ (al : Members) where
   rounds_resolved n each =
       reached_keeps al (λ st. AreResolved al st.done) (λ n r h. cc) (λ k w st is free due known. next_resolved k w st is known (outcome al st.done w) refl) (rounds_reached al n each)
 
+known_over : (a b : Bool) → (a || not b) ≡ true → b ≡ true → a ≡ true
+known_over a b h e = grind arith
+
 or_true : (a b c : Bool) → (a || b || not c) ≡ true → a ≡ false → c ≡ true → b ≡ true
 or_true a b c h e f = grind arith
 
@@ -139,7 +142,7 @@ module _ (al : Members) where
 -- ---- without a flaw, every alias is resolved
 
 -- an alias without an outcome has a flaw
-open_flawed : (found : Result ⊤ Flaw) → first_or_circle found ≡ [] → ⊥
+pub open_flawed : (found : Result ⊤ Flaw) → first_or_circle found ≡ [] → ⊥
 open_flawed (Ok x) h = cc
 open_flawed (Err f) h = elim (cases_Bool (is_circle f.kind)) [ inl is ↦ (let bad = rw is at h in cc) | inr is ↦ (let bad = rw is at h in cc) ]
 
@@ -258,7 +261,7 @@ pub resolution_is : (t : Data) (al : Members) (n : ℕ) (st : Outcomes) → al �
 resolution_is t al n st own count went =
     ap (λ x. resolution_under x t) (sym own) ∙ ap (λ x. resolution_after al x t) (ap (λ m. rounds al m no_outcomes) count ∙ sym went)
 
--- An alias that is resolved starts no walk as long as there are aliases.
+-- An alias that has an outcome starts no walk as long as there are aliases.
 
 abbrev pub count : (List ℕ → Bool) → Members → ℕ
 count p no_members = 0
@@ -282,53 +285,65 @@ module _ (p q : List ℕ → Bool) (more : (n : List ℕ) → p n ≡ true → q
   count_new k w no_members is before after = cc
   count_new k w (member l d ms) is before after = elim (meets k l) [ same e ↦ grind (arith, count_more ms, e) | other apart ↦ grind (arith, count_next 1 l d ms, count_new k w ms, get_other k l d ms apart) ]
 
--- ---- the walks of a resolved alias
+-- ---- the walks of an alias that has an outcome
 
 module _ (al : Members) where
-  -- a walk from a resolved alias has fewer steps than there are resolved aliases
-  abbrev Short : Outcomes → Type 0
-  Short st = (n : ℕ) (k : List ℕ) → has st.done k ≡ true → Walks al n k → n < count (has st.done) al
-
-  short_resolved : (k : List ℕ) (w r : Data) (st : Outcomes) → get_member k al ≡ Some w → has st.done k ≡ false → all_named (has st.done) places.FieldType w ≡ true → Short st → Short (concluded k st (Some r))
-  short_resolved k w r st is open_k named short n q h walk = at (meets q k)
-    where
-      grows : count (has st.done) al < count (has (put k r st.done)) al
-      grows = count_new (has st.done) (has (put k r st.done)) (is_still k r st.done) k w al is open_k (is_put k r st.done)
-
-      of_alias : (n : ℕ) → Walks al n k → n < count (has (put k r st.done)) al
-      of_alias zero walk = omega (arith, grows)
-      of_alias (suc n) (v, m, is', x, rest) =
-          let g : Some v ≡ Some w = sym is' ∙ is in
-          let one : v ≡ w = cc in
-          let before : n < count (has st.done) al = short n m (mentioned (has st.done) m w places.FieldType named (subst (Mentions m places.FieldType) one x)) rest in
-          omega (arith, grows)
-
-      at : Meets q k → n < count (has (put k r st.done)) al
-      at (same e) = of_alias n (subst (Walks al n) e walk)
-      at (other apart) =
-          let before : n < count (has st.done) al = short n q (ap is_some (sym (get_member-put_other q k r st.done apart)) ∙ h) walk in
-          omega (arith, grows)
-
-  short_next : (k : List ℕ) (w : Data) (st : Outcomes) → get_member k al ≡ Some w → has_outcome st k ≡ false → Short st → (o : Option Data) → outcome al st.done w ≡ o → Short (concluded k st o)
-  short_next k w st is free short None e = short
-  short_next k w st is free short (Some r) e = short_resolved k w r st is ((or_parts (has st.done k) (has st.refused k) free).0) (outcome_is al st.done w r e).named short
-
-  rounds_short : (n : ℕ) → AllEntries (λ k w. get_member k al ≡ Some w) al → Short (rounds al n no_outcomes)
-  rounds_short n each =
-      reached_keeps al Short (λ n k h walk. absurd (true≢false (sym h))) (λ k w st is free due short. short_next k w st is free short (outcome al st.done w) refl) (rounds_reached al n each)
-
-  walk_starts : (n : ℕ) (k : List ℕ) → Walks al n k → has al k ≡ true
+  pub walk_starts : (n : ℕ) (k : List ℕ) → Walks al n k → has al k ≡ true
   walk_starts zero k (w, is) = ap is_some is
   walk_starts (suc n) k (w, m, is, x, rest) = ap is_some is
 
--- where there is a resolution, no alias leads into a circle
-pub circle_refused : (t r : Data) (k : List ℕ) → NoClash (aliases_of t) → Walks (aliases_of t) (members_len (aliases_of t)) k → resolution t ≡ Ok r → ⊥
-circle_refused t r k apart walk h =
+  -- a walk from such an alias has fewer steps than there are outcomes
+  abbrev Short : Outcomes → Type 0
+  Short st = (n : ℕ) (k : List ℕ) → has_outcome st k ≡ true → Walks al n k → n < count (has_outcome st) al
+
+  module _ (k : List ℕ) (w : Data) (st : Outcomes) (o : Option Data) (is : get_member k al ≡ Some w) (free : has_outcome st k ≡ false) (due : all_named (is_over al st) places.FieldType w ≡ true) (short : Short st) where
+    abbrev next : Outcomes
+    next = concluded k st o
+
+    kept : (q : List ℕ) → has_outcome st q ≡ true → has_outcome next q ≡ true
+    kept q h = same_outcome st next q (concluded_agrees k st o free q h) ∙ h
+
+    concludes : (o : Option Data) → has_outcome (concluded k st o) k ≡ true
+    concludes None = or_right (has st.done k) (has (put k null st.refused) k) (is_put k null st.refused)
+    concludes (Some r) = or_left (has (put k r st.done) k) (has st.refused k) (is_put k r st.done)
+
+    grows : count (has_outcome st) al < count (has_outcome next) al
+    grows = count_new (has_outcome st) (has_outcome next) kept k w al is free (concludes o)
+
+    of_alias : (n : ℕ) → Walks al n k → n < count (has_outcome next) al
+    of_alias zero walk = omega (arith, grows)
+    of_alias (suc n) (v, m, is', x, rest) =
+        let over = mentioned (is_over al st) m w places.FieldType due (subst (Mentions m places.FieldType) (same_Some v w (sym is' ∙ is)) x) in
+        let before : n < count (has_outcome st) al = short n m (known_over (has_outcome st m) (has al m) over (walk_starts n m rest)) rest in
+        omega (arith, grows, before)
+
+    short_next : Short next
+    short_next n q h walk = elim (meets q k) [
+      | same e ↦ of_alias n (subst (Walks al n) e walk)
+      | other apart ↦ (let before : n < count (has_outcome st) al = short n q (sym (same_outcome st next q (concluded_other k st o q apart)) ∙ h) walk in omega (arith, grows, before))
+    ]
+
+  rounds_short : (n : ℕ) → AllEntries (λ k w. get_member k al ≡ Some w) al → Short (rounds al n no_outcomes)
+  rounds_short n each =
+      reached_keeps al Short (λ n k h walk. absurd (true≢false (sym h))) (λ k w st is free due short. short_next k w st (outcome al st.done w) is free due short) (rounds_reached al n each)
+
+-- no alias that has an outcome leads into a circle
+pub outcome_ends : (t : Data) (k : List ℕ) → NoClash (aliases_of t) → has_outcome (rounds_of t) k ≡ true → ¬ Walks (aliases_of t) (members_len (aliases_of t)) k
+outcome_ends t k apart has_one walk =
     let al = aliases_of t in
     let n = members_len al in
-    let st = rounds al n no_outcomes in
-    let each = found_each al apart in
-    let done = all_done al st (tree_sound t r h).outcomes (rounds_reached al n each) k (walk_starts al n k walk) in
-    let long : n < count (has st.done) al = rounds_short al n each n k done walk in
-    let few : count (has st.done) al ≤ n = count_all (has st.done) al in
-    omega arith
+    let long : n < count (has_outcome (rounds_of t)) al = rounds_short al n (found_each al apart) n k has_one walk in
+    let few : count (has_outcome (rounds_of t)) al ≤ n = count_all (has_outcome (rounds_of t)) al in
+    omega (arith, long, few)
+
+-- where no alias has a flaw, none does
+pub no_circle : (t : Data) (k : List ℕ) → NoClash (aliases_of t) → all_alias_flaws (aliases_of t) (rounds_of t) (aliases_of t) ≡ [] → ¬ Walks (aliases_of t) (members_len (aliases_of t)) k
+no_circle t k apart none walk =
+    let al = aliases_of t in
+    let st = rounds_of t in
+    let done = all_done al st none (rounds_reached al (members_len al) (found_each al apart)) k (walk_starts al (members_len al) k walk) in
+    outcome_ends t k apart (or_left (has st.done k) (has st.refused k) done) walk
+
+-- where there is a resolution, no alias leads into a circle
+pub circle_refused : (t r : Data) (k : List ℕ) → NoClash (aliases_of t) → Walks (aliases_of t) (members_len (aliases_of t)) k → resolution t ≡ Ok r → ⊥
+circle_refused t r k apart walk h = no_circle t k apart (tree_sound t r h).outcomes walk

@@ -1,5 +1,5 @@
 -- The aliases of a configuration: that each was resolved as it is laid, and is sound.
-use Rattle.std.proofs.Common.{arith, string_bytes, ◌≡◌, ◌++◌, ◌&&◌, ℕ, List, [], map, Option, Some, None, Result, Ok, Err, is_some, true, false, true≢false, refl, sym, ap, ◌∙◌, subst, inl, inr, ◌∷◌, option_and_then, ◌⊎◌, suc, ◌≤◌}
+use Rattle.std.proofs.Common.{arith, string_bytes, ◌≡◌, ◌++◌, ◌&&◌, ℕ, List, [], map, Option, Some, None, Result, Ok, Err, is_some, true, false, true≢false, refl, sym, ap, ◌∙◌, subst, inl, inr, ◌∷◌, ◌⊎◌, suc, ◌≤◌}
 use Rattle.std.proofs.{lemmas.Bool.{cases_Bool, or_left}, lemmas.Slice.Eq.{bytes_eq-Decides}, lemmas.Map.Text.{is_eq-slice_cmp}}
 use Rattle.std.proofs.lemmas.Result.{err_from_is_err_and}
 use Rattle.std.specs.{Prelude.{⊤}, Str.{bytes_eq}, Result.{IsErrAnd}}
@@ -20,7 +20,7 @@ use Rattle.conf_inherit.specs.Resolution.{trace_name, type_name, aliases_name, f
 use Rattle.conf_inherit.specs.Nesting.{deep_flaws, deep_member_flaws}
 use Rattle.conf_inherit.proofs.{FieldPlaceLemmas.{trace_place, trace_type_place, aliases_place}, WorkedPlaces.leads_on}
 use Rattle.conf_inherit.proofs.LayingLemmas.{differs, cases_Option, same_members, in_order_lay, lay_members-absent, lay_members-found, same, other, meets, get_other, get_same, AllEntries, all_along, found_each, equal_names, apart_greater}
-use Rattle.conf_inherit.proofs.LimitLemmas.{fitting_value}
+use Rattle.conf_inherit.proofs.{LimitLemmas.fitting_value, LookedUp.aliases_found}
 use Rattle.conf_inherit.proofs.{RoundLemmas.{no_flaws, sound_of, outcome_is, all_done, rounds_reached}, FaultLemmas.{some_of}, TurnLemmas.{reached_sound}}
 use Rattle.conf_inherit.proofs.{SpentLemmas.{written, same_names, same_alias_flaws, same_flaws}, SizeLemmas.{depth_shallow}}
 
@@ -99,14 +99,13 @@ sound_aliases al done no_members each = refl
 sound_aliases al done (member k w ms) each =
     ap (λ fs. map (within (key k)) fs ++ member_flaws (known_in al) (Some done) true places.FieldTypeAliases no_members ms) each.0 ∙ sound_aliases al done ms each.1
 
+-- where nothing is found in the aliases, each is sound
+pub alias_sound : (al : Members) (n : ℕ) (st : Outcomes) → NoClash al → st ≡ rounds al n no_outcomes → from_aliases (refusal (all_alias_flaws al st al)) ≡ Ok tt → (k : List ℕ) (w : Data) → get_member k al ≡ Some w → type_flaws al st.done places.FieldType w ≡ []
+alias_sound al n st apart turned sound k w is = let found = found_alias al n st apart turned sound k w is in sound_outcome al st.done w found.0 found.1
+
 pub whole_sound : (al : Members) (n : ℕ) (st : Outcomes) → NoClash al → st ≡ rounds al n no_outcomes → from_aliases (refusal (all_alias_flaws al st al)) ≡ Ok tt → member_flaws (known_in al) (Some st.done) true places.FieldTypeAliases no_members al ≡ []
 whole_sound al n st apart turned sound =
-    sound_aliases al st.done al (all_along (λ k w. get_member k al ≡ Some w) (λ k w. type_flaws al st.done places.FieldType w ≡ []) each al (found_each al apart))
-  where
-    each : (k : List ℕ) (w : Data) → get_member k al ≡ Some w → type_flaws al st.done places.FieldType w ≡ []
-    each k w is =
-        let found = found_alias al n st apart turned sound k w is in
-        sound_outcome al st.done w found.0 found.1
+    sound_aliases al st.done al (all_along (λ k w. get_member k al ≡ Some w) (λ k w. type_flaws al st.done places.FieldType w ≡ []) (alias_sound al n st apart turned sound) al (found_each al apart))
 
 -- A configuration with other aliases in the place of its own: what is found, laid and refused in it.
 
@@ -176,10 +175,7 @@ own_aliases t =
     value_stays trace_name (in_property type_name (in_property aliases_name (in_object al))) t (λ trace in_root.
     value_stays type_name (in_property aliases_name (in_object al)) trace (λ type in_trace.
     value_stays aliases_name (in_object al) type (λ found in_type.
-    own_object al found (
-    ap (λ o. members_or_none (option_and_then (get aliases_name) (option_and_then (get type_name) o))) in_root
-    ∙ ap (λ o. members_or_none (option_and_then (get aliases_name) o)) in_trace
-    ∙ ap members_or_none in_type))))
+    own_object al found (aliases_found t trace type found in_root in_trace in_type))))
 
 -- the aliases, put back where they were
 pub back_again : (t : Data) (al none : Members) (v : Data) → al ≡ aliases_of t → v ≡ with_aliases none t → with_aliases al v ≡ t

@@ -18,3 +18,4 @@ pub mod Asked
 pub mod Resolution
 pub mod Whole
 pub mod Faults
+pub mod FaultOrder

@@ -2,7 +2,7 @@
 ghost use Rattle.std.specs.Prelude.{◌≡◌, ◌≤◌, ◌⊎◌, ℕ, Some, None, IfOk, IfErr, true, map};
 ghost use Rattle.conf_tree.specs.{Flaw.{flaw_of, IsMemory}, Reading.Gives};
 ghost use Rattle.conf_inherit.specs.{AliasOutcomes.outcomes_of, Whole.{at_way, with_object, with_aliases, AreLaid}, declared.nesting.TheConstants.ALIAS_LEVELS};
-ghost use Rattle.conf_inherit.specs.{Faults.RefusalHolds, Laying.lay, Rounds.{rounds, no_outcomes}, Spent.Spends};
+ghost use Rattle.conf_inherit.specs.{FaultOrder.IsToldInTurn, Faults.RefusalHolds, Laying.lay, Rounds.{rounds, no_outcomes}, Spent.Spends};
 ghost use Rattle.conf_inherit.specs.{Names.NoClash, Resolution.{aliases_of, members_or_none, Resolves, in_aliases, if_shallow, resolution_after, resolution}};
 ghost use Rattle.serde_json.specs.{Data.{Members, no_members, members_depth}, View.{view, members_view}};
 
@@ -142,6 +142,10 @@ pub fn resolve(alloc: Global, tree: Tree) -> Result<Tree, ConfFault>
     ensures resolved { IfOk result (λ made. Resolves (view tree.value) (view made.value)) }
     ensures refused { IfErr result (λ fault. IsMemory fault ⊎ RefusalHolds (view tree.value) (flaw_of fault)) }
     ensures first { Gives (λ made. view made.value) result (resolution (view tree.value)) }
+
+    // Where anything is wrong with the tree as given, that is told, and not that it resolves to what nests too deep; where anything
+    // is wrong in an alias, what is told lies in one; and nothing is wrong in the aliases before that, but maybe a limit.
+    ensures in_turn { IfErr result (λ fault. IsMemory fault ⊎ IsToldInTurn (view tree.value) (flaw_of fault)) }
 {
     let Tree { mut value } = tree;
     let mut aliases = replace_aliases(alloc, &mut value, Map::new(alloc));

@@ -4,7 +4,7 @@ use Rattle.serde_json.specs.{Data.{Data, Members}, Events.members_len, View.{vie
 use Rattle.serde_json.proofs.Views.{members_len-members_view}
 use Rattle.conf_tree.specs.Flaw.{flaw_of}
 use Rattle.conf_inherit.specs.{Names.NoClash, Resolution.{aliases_of, resolution, resolution_after}, Rounds.{Outcomes, rounds, no_outcomes}, Whole.with_aliases}
-use Rattle.conf_inherit.proofs.{RefusalLemmas.refusal_holds, RoundLemmas.{resolution_is, resolution_sound}}
+use Rattle.conf_inherit.proofs.{FaultOrderLemmas.told_in_turn, RefusalLemmas.refusal_holds, RoundLemmas.{resolution_is, resolution_sound}}
 use Rattle.conf_inherit.proofs.{LookedUp.resolved_clean, TakenLemmas.{back_again, bare_again}}
 use Rattle.conf_inherit.proofs.resolution.resolve.Goals as goal
 
@@ -23,6 +23,7 @@ returns c =
       resolved = (resolution_sound (view c.args.tree.value) (view c.in_ok-value.value) (subst NoClash c.replace_aliases-aliases.ensures.old c.in_ok-outcomes.ensures.apart) first).0;
       refused = tt;
       first = first;
+      in_turn = tt;
     }
 
 pub invariant_of-result : goal.invariant_of-result
@@ -44,10 +45,11 @@ returns-in_err-value c =
     let is = taken_resolution (view c.args.tree.value) (members_view c.new.result.entries) c.replace_aliases-aliases.ensures.old c.replace_aliases-aliases.ensures.new (members_len-members_view c.replace_aliases-aliases.result.entries) c.in_ok-outcomes.ensures.settled in
     rw (p.1, p.2)
     (elim (c.in_err-value.ensures.first (members_view c.replace_aliases-aliases.result.entries) (btree_map_len c.replace_aliases-aliases.result) c.in_ok-outcomes.ensures.apart c.in_ok-outcomes.ensures.settled c.in_ok-outcomes.ensures.spent) [
-      | inl memory ↦ record { resolved = tt; refused = inl memory; first = inl memory }
+      | inl memory ↦ record { resolved = tt; refused = inl memory; first = inl memory; in_turn = inl memory }
       | inr flawed ↦ record {
         resolved = tt;
         refused = inr (refusal_holds (view c.args.tree.value) (flaw_of c.in_err-value.field-0.0) (subst NoClash c.replace_aliases-aliases.ensures.old c.in_ok-outcomes.ensures.apart) (is ∙ flawed));
         first = inr (is ∙ flawed);
+        in_turn = inr (told_in_turn (view c.args.tree.value) (flaw_of c.in_err-value.field-0.0) c.args.tree.ordered (is ∙ flawed));
       }
     ])
