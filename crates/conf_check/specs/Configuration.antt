@@ -8,6 +8,7 @@ use Rattle.conf_tree.specs.declared.fault_kind.FaultKind.TheVariants.{NotJson}
 use Rattle.conf_tree.specs.declared.limits.TheConstants.{MAX_LEVELS}
 use Rattle.conf_tree.specs.Flaw.{Flaw, here, IsMemory}
 use Rattle.conf_tree.specs.Walk.{IsTreeOf, IsFirstFlaw, Reads, FlawHolds}
+use Rattle.conf_inherit.specs.FaultOrder.{IsToldInTurn}
 use Rattle.conf_inherit.specs.Faults.{RefusalHolds}
 use Rattle.conf_inherit.specs.Resolution.{resolution, Resolves}
 use Rattle.conf_table.specs.declared.place.Place.TheVariants.{Root}
@@ -60,6 +61,10 @@ IsRefusal text number flaw =
 -- where the text's value has a flaw as a tree, this flaw is the first that it has
 abbrev pub TellsFirstInTree : List ℕ → Flaw → Type 0
 TellsFirstInTree text flaw = (d : Data) (other : Flaw) → Reads text d → IsTreeFlaw d other → IsFirstInTree d flaw
+
+-- of the faults of inheritance that the text's tree has, this flaw is told in its turn
+abbrev pub TellsInheritanceInTurn : List ℕ → Flaw → Type 0
+TellsInheritanceInTurn text flaw = (t : Data) → IsTreeOf text t → IsToldInTurn t flaw
 
 -- the resolved tree is no configuration: an object has a row that does not hold, or all rows hold, and the whole breaks a rule
 -- or passes a limit

@@ -3,7 +3,7 @@ ghost use Rattle.std.specs.Prelude.{◌⊎◌, IfOk, IfErr};
 ghost use Rattle.ctf_types.specs.declared.Config.{Config as Configuration};
 ghost use Rattle.ctf_types.specs.AllowedConfig.{IsConfig};
 ghost use Rattle.conf_tree.specs.Flaw.{flaw_of, IsMemory};
-ghost use Rattle.conf_check.specs.Configuration.{Configures, ConfiguresResolved, ConfiguresByLookUp, GivesThat, HasNoFault, IsRefusal, RefusalIsTrue, RefusedForMemory, TellsFirstInTree};
+ghost use Rattle.conf_check.specs.Configuration.{Configures, ConfiguresResolved, ConfiguresByLookUp, GivesThat, HasNoFault, IsRefusal, RefusalIsTrue, RefusedForMemory, TellsFirstInTree, TellsInheritanceInTurn};
 
 use crate::judgement::check;
 use conf_inherit::resolve;
@@ -27,6 +27,11 @@ pub fn configure(alloc: Global, text: &[u8], number: Option<Uuid>) -> Result<Con
     // Where the text has faults as a tree, the one that is told stands before each other one: an object or a list before its
     // content, properties in byte order of their names, items by index.
     ensures first_in_tree { IfErr result (λ fault. IsMemory fault ⊎ TellsFirstInTree text.now (flaw_of fault)) }
+
+    // A fault of inheritance is told in its turn: where anything is wrong with the tree as given, that is told, and not that it
+    // resolves to what nests too deep; where anything is wrong in an alias, what is told lies in one; and nothing is wrong in the
+    // aliases before that, but maybe a limit.
+    ensures inherited_in_turn { IfErr result (λ fault. IsMemory fault ⊎ TellsInheritanceInTurn text.now (flaw_of fault)) }
 
     // The fault's kind holds at its path.
     ensures holds { IfErr result (λ fault. IsMemory fault ⊎ RefusalIsTrue text.now number (flaw_of fault)) }

@@ -3,7 +3,7 @@ use Rattle.std.proofs.lemmas.Result.{IfOk-weaker, IfErr-weaker, err_from_is_err_
 use Rattle.serde_json.specs.View.{view}
 use Rattle.conf_tree.specs.Flaw.{flaw_of}
 use Rattle.conf_check.proofs.ConfigurationLaws.{memory_or, text_excluded, no_tree, memory_alone, refused_for_memory, configured_by_look_up, answered_by_look_up}
-use Rattle.conf_check.proofs.ExcludedTexts.{none_to_tell, first_told}
+use Rattle.conf_check.proofs.ExcludedTexts.{tree_excluded, none_to_tell, first_told, none_inherited, told_of_tree}
 use Rattle.conf_check.proofs.configuration.configure.Goals as goal
 
 pub returns-clause-only : goal.returns-clause-only
@@ -58,3 +58,18 @@ pub returns-in_err-resolved-clause-holds : goal.returns-in_err-resolved-clause-h
 returns-in_err-resolved-clause-holds c =
     let p = err_from_is_err_and c.from_residual-in_err-resolved.result c.from_residual-in_err-resolved.ensures.1 in
     rw (p.1, p.2) (memory_or c.in_err-resolved.ensures.refused (λ wrong. inr (inl (view c.in_ok-tree.tree.value, c.in_ok-tree.ensures.tree, wrong))))
+
+pub returns-clause-inherited_in_turn : goal.returns-clause-inherited_in_turn
+returns-clause-inherited_in_turn c =
+    IfErr-weaker c.check.result _ _ (λ fault only. inr (none_inherited c.args.text.now (view c.in_ok-tree.tree.value) (view c.in_ok-resolved.resolved.value) (flaw_of fault) c.in_ok-tree.ensures.tree c.in_ok-resolved.ensures.first)) c.check.ensures.only
+
+pub returns-in_err-resolved-clause-inherited_in_turn : goal.returns-in_err-resolved-clause-inherited_in_turn
+returns-in_err-resolved-clause-inherited_in_turn c =
+    let p = err_from_is_err_and c.from_residual-in_err-resolved.result c.from_residual-in_err-resolved.ensures.1 in
+    rw (p.1, p.2) (memory_or c.in_err-resolved.ensures.in_turn (told_of_tree c.args.text.now (view c.in_ok-tree.tree.value) (flaw_of c.in_err-resolved.field-0.0) c.in_ok-tree.ensures.tree))
+
+pub returns-in_err-tree-clause-inherited_in_turn : goal.returns-in_err-tree-clause-inherited_in_turn
+returns-in_err-tree-clause-inherited_in_turn c =
+    let p = err_from_is_err_and c.from_residual.result c.from_residual.ensures.1 in
+    rw (p.1, p.2)
+    (memory_or (no_tree c.args.text.now c.in_err-tree.field-0.0 c.in_err-tree.ensures.first c.in_err-tree.ensures.holds) (λ none t tree. absurd (tree_excluded c.args.text.now t (flaw_of c.in_err-tree.field-0.0) tree none)))
