@@ -4,6 +4,7 @@ pub mod FlawWords
 pub mod Fronts
 pub mod Twice
 pub mod Limits
+pub mod Asked
 pub mod Misfits
 pub mod Unfinished
 pub mod Flaws

@@ -1,6 +1,6 @@
 -- What blocks without a flaw mean.
 use Rattle.std.proofs.Common.{◌≡◌, ℕ, ◌==◌, Bool, true, false, not, ◌&&◌, List, ◌∷◌, map, Option, Some, None, refl, sym, ap, subst, ◌∙◌, pos, [], arith}
-use Rattle.tsdl_meaning.proofs.TextWords.{AllByRecursion, AreFlawless, BlockKind, ByteOrder, ClockType, ContainsKey, Event, HasNumbers, IsFlawlessBlock, IsFlawlessScope, Item, Known, Ledger, Scope, ScopeRule, Stream, StructType, Value, and_true, are_distinct, attr, attr_names, attrs_in, clock_meaning, clock_name, codes, contains, contains_text, event_context, event_header, event_meaning, fields_scope, fits, flag_value, has_in_context, has_number, has_parts, has_sizes, header_meaning, is_among, is_fit, is_number, is_some, is_trace, list_all, meant_by, name_value, nat_cmp, natural_value, not-true, number_or_zero, of_clock, of_event, of_stream, of_trace, option_map_or, order_table, packet_context, packet_header, pair_cmp, rule_in, scope, scopes_in, scopes_of, specific_context, stream_meaning, text_value, trace_order, trace_uuid, uuid_value, whole_value, with_default, word_value, words_of, ◌>>=◌}
+use Rattle.tsdl_meaning.proofs.TextWords.{AllByRecursion, AreFlawless, BlockKind, ByteOrder, ClockType, ContainsKey, Event, HasNumbers, IsFlawlessBlock, IsFlawlessScope, Item, Known, Ledger, Scope, ScopeRule, Stream, StructType, Value, and_true, are_distinct, attr, attr_names, attrs_in, clock_meaning, clock_name, codes, contains, contains_text, event_context, event_header, event_meaning, fields_scope, fits, flag_value, has_in_context, has_number, has_parts, has_sizes, header_meaning, is_among, is_fit, is_number, is_some, is_trace, list_all, meant_by, name_value, nat_cmp, natural_value, not-true, number_or_zero, clock_asks, of_event, stream_asks, trace_asks, option_map_or, order_table, packet_context, packet_header, pair_cmp, rule_in, scope, scopes_in, scopes_of, specific_context, stream_meaning, text_value, trace_order, trace_uuid, uuid_value, whole_value, with_default, word_value, words_of, ◌>>=◌}
 use Rattle.tsdl_meaning.specs.declared.judge.block.BlockKind.TheVariants as kinds
 use Rattle.tsdl_meaning.specs.declared.scope_rule.ScopeRule.TheVariants.{AnyMembers, PacketHeader, PacketContext, EventHeader}
 use Rattle.tsdl_meaning.proofs.FlawlessItems.{passes_of, some_is, there_of, value_fits, needed_is, default_is, option_is, scope_means, has_alike}
@@ -35,10 +35,10 @@ pub record TraceOf (known : Known) (is : List Item) : Type 0 where
   pub identified : trace_uuid is ≡ Some uuid
   pub headed : header_meaning known is ≡ Some header
 
-numbered : (w : List ℕ) (n : ℕ) (is : List Item) → list_all (is_fit of_trace) (attrs_in is) ≡ true → is_some (attr w (attrs_in is)) ≡ true → ((v : Value) → fits of_trace w v ≡ is_number n v) → has_number w n is ≡ true
+numbered : (w : List ℕ) (n : ℕ) (is : List Item) → list_all (is_fit trace_asks) (attrs_in is) ≡ true → is_some (attr w (attrs_in is)) ≡ true → ((v : Value) → fits trace_asks w v ≡ is_number n v) → has_number w n is ≡ true
 numbered w n is all there asks =
     let v = some_is (attr w (attrs_in is)) there in
-    ap (λ (o : Option Value). option_map_or (λ m. m == n) (o >>= natural_value) false) v.1 ∙ sym (asks v.0) ∙ value_fits of_trace w (attrs_in is) v.0 all v.1
+    ap (λ (o : Option Value). option_map_or (λ m. m == n) (o >>= natural_value) false) v.1 ∙ sym (asks v.0) ∙ value_fits trace_asks w (attrs_in is) v.0 all v.1
 
 pub trace_means : (known : Known) (ledger : Ledger) (is : List Item) → IsFlawlessBlock known kinds.Trace ledger is → TraceOf known is
 unfolding trace_uuid header_meaning
@@ -51,8 +51,8 @@ trace_means known ledger is f =
     let rest = (and_true (there (codes "major")) (there (codes "minor") && (there (codes "byte_order") && true)) complete).1 in
     let minor = (and_true (there (codes "minor")) (there (codes "byte_order") && true) rest).0 in
     let order = (and_true (there (codes "byte_order")) true (and_true (there (codes "minor")) (there (codes "byte_order") && true) rest).1).0 in
-    let ordered = needed_is of_trace (λ v. word_value v >>= meant_by order_table) (codes "byte_order") attrs all (λ v h. h) order in
-    let identified = option_is of_trace uuid_value (codes "uuid") attrs all (λ v h. h) in
+    let ordered = needed_is trace_asks (λ v. word_value v >>= meant_by order_table) (codes "byte_order") attrs all (λ v h. h) order in
+    let identified = option_is trace_asks uuid_value (codes "uuid") attrs all (λ v h. h) in
     let headed = scope_means known kinds.Trace packet_header PacketHeader (scopes_in is) f.parts.scopes refl in
     record {
       order = ordered.0;
@@ -79,7 +79,7 @@ unfolding clock_meaning
 clock_means known ledger is f =
     let attrs = attrs_in is in
     let all = f.parts.attributes in
-    let asked = of_clock ledger in
+    let asked = clock_asks ledger in
     let there = (and_true (is_some (attr (codes "name") attrs)) true f.ended.complete).0 in
     let taken = contains_text ledger.clocks in
     let name = needed_is asked name_value (codes "name") attrs all (λ v h. there_of (λ w. not (taken w)) (name_value v) h) there in
@@ -129,7 +129,7 @@ stream_means known ledger is f =
     let attrs = attrs_in is in
     let scopes = scopes_in is in
     let all = f.parts.attributes in
-    let asked = of_stream ledger in
+    let asked = stream_asks ledger in
     let taken = contains nat_cmp ledger.streams in
     let id = default_is asked natural_value (codes "id") attrs all (λ v h. there_of (λ n. not (taken n)) (natural_value v) h) 0 in
     let context = scope_means known kinds.Stream packet_context PacketContext scopes f.parts.scopes refl in

@@ -1,8 +1,9 @@
 -- The entries of an environment: what those without a flaw mean, and names that stand twice.
-use Rattle.std.proofs.Common.{◌≡◌, ℕ, ◌≤◌, Bool, true, false, ◌||◌, List, ◌∷◌, ◌++◌, map, length, Option, Some, Contains, refl, sym, ap, ◌∙◌, subst, arith, length-append, inl, inr, bytes_eq, []}
+use Rattle.std.proofs.Common.{◌≡◌, ℕ, ◌≤◌, Bool, true, false, ◌||◌, List, ◌∷◌, ◌++◌, map, length, Option, Some, Contains, refl, sym, ap, ◌∙◌, subst, arith, length-append, inl, inr, bytes_eq, codes, []}
 use Rattle.tsdl_meaning.proofs.TextWords.{AddsFact, AllByRecursion, Atom, Ends, EndsFacts, EnvironmentEntry, IsTwice, Item, MAX_ENVIRONMENT, MeanEntries, Name, NamedFact, Value, bytes_eq, bytes_eq-Decides, cases_Bool, each, environment_meaning, fact_meaning, fact_toks, flat_map, item_toks, list_any, map-append, mark, named_fact_meaning, named_fact_toks, nat_list_eq_equiv, no_two, option_map, value_toks, word}
 use Rattle.std.proofs.lemmas.Bool.Decides.{nat_tests}
 use Rattle.tsdl_meaning.proofs.FlawlessItems.{no_two_more, some_is}
+use Rattle.tsdl_meaning.proofs.JudgedParts.{ends_part}
 use Rattle.std.proofs.lemmas.List.Elements.{Contains-append_left, Contains-append_right, Contains-push}
 use Rattle.tsdl_grammar.specs.declared.token.Mark.{Mark}
 use Rattle.tsdl_grammar.specs.declared.token.Mark.TheVariants as marks
@@ -94,7 +95,7 @@ fact_twice w fs front h ends =
       other = name;
       behind = marks.Equals;
       items = map as_item fs;
-      ends = subst (λ (l : List Atom). Ends front (mark marks.OpenBrace ∷ l)) (sym (entries_alike fs)) ends;
+      ends = subst (λ (l : List Atom). Ends front (mark marks.OpenBrace ∷ l)) (sym (entries_alike fs)) (ends_part front (word (codes "env") ∷ []) (mark marks.OpenBrace ∷ flat_map named_fact_toks fs) ends);
       before = entry_there w fs h;
       same = refl;
       here = refl;

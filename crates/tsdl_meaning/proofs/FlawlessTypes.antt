@@ -1,6 +1,6 @@
 -- What the kinds, the brackets and the members of a structure mean in which no flaw is found.
-use Rattle.std.proofs.Common.{◌≡◌, ℕ, ◌<◌, ◌%◌, ◌==◌, Bool, true, false, ◌&&◌, List, ◌∷◌, ◌++◌, length, Option, Some, None, IsSome, Bor, ℤ, refl, sym, ap, subst, ◌∙◌, arith, length-append, ◌*◌, ◌≤◌, max, inl, inr, []}
-use Rattle.tsdl_meaning.proofs.TextWords.{Adds, AddsAttribute, AreBrackets, AreRanges, Asked, Attribute, BTreeSet, Bracket, ByteOrder, Entries, Entry, Global, HaveNumbers, KeepsLimits, Known, LARGEST_ALIGN, Leaf, MAX_ARRAYS, MAX_ELEMENTS, MAX_MEMBERS, MAX_RANGES, MemberTree, MemberType, NameLength, Number, ScopeRule, String, StructType, Structure, Value, align_of, align_with, and_from, and_true, are_distinct, are_lengths, attr, attr_names, base_value, bind_is, bracketed, bytes_eq, clock_value, codes, count_of, default_align, elements_of, encoding_value, entries_of, entry_meaning, enum_meaning, eqb-true, flag_value, has_member, has_only, high_of, int_attrs, int_le, int_meaning, is_alignment, is_among, is_size, is_some, kind_meaning, leb-true, length_place, list_all, list_any, ltb-true, member_meaning, members_meaning, nat_le, nat_lt, natural, natural_value, of_integer, of_string, option_map, option_map_or, order_value, own_asked, own_attrs, signed_of, string_attrs, struct_meaning, struct_type, suits_rule, text_meaning, tree_of, with_default, word_value, words_of}
+use Rattle.std.proofs.Common.{◌≡◌, ℕ, ◌<◌, ◌%◌, ◌==◌, Bool, true, false, ◌&&◌, List, ◌∷◌, ◌++◌, length, Option, Some, None, cond, IsSome, Bor, ℤ, refl, sym, ap, subst, ◌∙◌, arith, length-append, ◌*◌, ◌≤◌, max, inl, inr, []}
+use Rattle.tsdl_meaning.proofs.TextWords.{Adds, AddsAttribute, AreBrackets, AreRanges, Asked, Attribute, BTreeSet, Bracket, ByteOrder, Entries, Entry, Global, HaveNumbers, KeepsLimits, Known, LARGEST_ALIGN, Leaf, MAX_ARRAYS, MAX_ELEMENTS, MAX_MEMBERS, MAX_RANGES, MemberTree, MemberType, NameLength, Number, ScopeRule, String, StructType, Structure, Value, align_of, align_with, and_from, and_true, are_distinct, are_lengths, attr, attr_names, base_value, bind_is, bracketed, bytes_eq, clock_value, codes, count_of, default_align, elements_of, encoding_value, entries_of, entry_meaning, enum_meaning, eqb-true, flag_value, has_member, has_only, high_of, int_attrs, int_le, int_meaning, is_alignment, is_among, is_size, is_some, kind_meaning, leb-true, length_place, list_all, list_any, ltb-true, member_meaning, members_meaning, nat_le, nat_lt, natural, natural_value, integer_asks, of_string, option_map, option_map_or, order_value, own_asked, own_attrs, signed_of, string_attrs, struct_meaning, struct_type, suits_rule, text_meaning, tree_of, with_default, word_value, words_of}
 use Rattle.std.proofs.lemmas.Bool.Decides.{nat_tests}
 use Rattle.ctf_types.specs.declared.Base.TheVariants.{Dec}
 use Rattle.ctf_types.specs.declared.IntType.{IntType}
@@ -12,6 +12,7 @@ use Rattle.tsdl_meaning.proofs.FlawlessItems.{Attributes, attribute_more, all_on
 use Rattle.tsdl_meaning.proofs.FlawlessFacts.{each_more}
 use Rattle.tsdl_meaning.proofs.ElementCounts.{elements_behind}
 use Rattle.tsdl_flaw.specs.Limits.{depth, elements}
+use Rattle.tsdl_meaning.specs.OfferedWords.{words_by}
 use Rattle.tsdl_grammar.specs.declared.tree.Bracket.TheVariants as brackets
 use Rattle.tsdl_meaning.specs.declared.judge.brackets.Lengths.{Lengths}
 use Rattle.tsdl_meaning.specs.FlawlessStructures.{AddsMember, IsFlawless}
@@ -32,9 +33,12 @@ only_these allowed asked all names s = and_from (are_distinct (attr_names all)) 
 
 -- ---- values
 
-pub native_is : (order : ByteOrder) (v : Value) → option_map_or (λ w. list_any (bytes_eq w) (codes "native" ∷ [])) (word_value v) false ≡ true → is_some (order_value order v) ≡ true
+-- a word for the trace's own byte order, or for both where the trace gives none
+pub order_meant : (has : Bool) (order : ByteOrder) (v : Value) → option_map_or (λ w. list_any (bytes_eq w) (words_by (cond has (Some order) None))) (word_value v) false ≡ true
+    → is_some (order_value order v) ≡ true
 unfolding order_value
-native_is order v e = grind (arith, e)
+order_meant true order v e = grind (arith, e)
+order_meant false order v e = grind (arith, e)
 
 -- ---- integers
 
@@ -46,11 +50,11 @@ align_range : (size align : ℕ) (o : Option Value) → ((v : Value) → o ≡ S
 align_range size align None asks e = grind (arith, e)
 align_range size align (Some v) asks e = passes_of is_power (natural_value v) align (asks v refl) e
 
-integer_means : (known : Known) (attrs : List Attribute) (names : BTreeSet (String Global)) → Own int_attrs (of_integer known) attrs names → is_some (attr (codes "size") attrs) ≡ true
+integer_means : (known : Known) (attrs : List Attribute) (names : BTreeSet (String Global)) → Own int_attrs (integer_asks known) attrs names → is_some (attr (codes "size") attrs) ≡ true
     → IsSome (int_meaning known attrs)
 unfolding int_meaning
 integer_means known attrs names s there =
-    let asked = of_integer known in
+    let asked = integer_asks known in
     let all = s.attributes.fit in
     let given = some_is (attr (codes "size") attrs) there in
     let sized : is_size given.0 ≡ true = value_fits asked (codes "size") attrs given.0 all given.1 in

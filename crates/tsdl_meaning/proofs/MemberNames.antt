@@ -1,10 +1,11 @@
 -- Members by their names, structure types from their parts, and alignments.
 use Rattle.std.proofs.Common.{ap, ◌∙◌, ◌≡◌, ℕ, ◌<◌, List, ◌∷◌, length, Contains, Bool, true, false, ◌||◌, Decides, refl, sym, subst, inl, inr, arith, bytes_eq, Some, None, get_or, ◌↔◌, ◌%◌, ◌≤◌, Option, IsSome, IfSome, ◌==◌, ◌&&◌, []}
 use Rattle.std.proofs.lemmas.Map.Views.{Contains-from_any, list_any-from_Contains}
-use Rattle.tsdl_meaning.proofs.TextWords.{Atom, IsBehindAlign, IsLargeAlignment, IsPassed, LARGEST_ALIGN, MemberType, Number, StructType, align_of, bytes_eq-Decides, cases_lt, false≢true, has_member, is_some, le-ltb, list_any, lt-ltb, names_in, nat_list_eq_equiv, nat_lt, natural, number_toks, position, position_or_len, provided, struct_type, ◌>>=◌}
+use Rattle.tsdl_meaning.proofs.TextWords.{Atom, IsBehindAlign, IsLargeAlignment, IsPassed, LARGEST_ALIGN, MemberType, Number, StructType, align_of, bytes_eq-Decides, cases_lt, false≢true, has_member, is_alignment, is_some, le-ltb, list_any, lt-ltb, names_in, nat_list_eq_equiv, nat_lt, natural, number_toks, position, position_or_len, provided, struct_type, ◌>>=◌}
 use Rattle.std.proofs.lemmas.List.Sums.{position_or_len_is}
 use Rattle.std.proofs.lemmas.Bool.Decides.{nat_tests}
 use Rattle.std.proofs.Math.Nat.{mod-eq_of_lt}
+use Rattle.tsdl_grammar.specs.declared.tree.Value.TheVariants as values
 use Rattle.ctf_types.specs.Alignment.{IsAlignment}
 use Rattle.tsdl_grammar.proofs.TypeParts.{struct_type-gives, struct_type-refuses}
 
@@ -53,3 +54,10 @@ large_align front n v ends e large =
 -- a number that is an alignment is one where it stands behind a structure
 pub aligned_is : (n : Number) (v : ℕ) → natural n ≡ Some v → is_some (provided (nat_lt 0 v && (LARGEST_ALIGN % v == 0)) (Some v)) ≡ true → IsSome (align_of (Some n))
 aligned_is n v e there = subst (λ (o : Option ℕ). IsSome (o >>= λ a. provided (nat_lt 0 a && (LARGEST_ALIGN % a == 0)) (Some a))) (sym e) there
+
+-- a number that is none, and one below 0
+pub unaligned_is : (n : Number) (v : ℕ) → natural n ≡ Some v → is_some (provided (nat_lt 0 v && (LARGEST_ALIGN % v == 0)) (Some v)) ≡ false → is_alignment (values.Number n) ≡ false
+unaligned_is n v e none = grind (arith, e, none)
+
+pub not_aligned : (n : Number) → is_some (natural n) ≡ false → is_alignment (values.Number n) ≡ false
+not_aligned n e = grind (arith, e)

@@ -1,63 +1,128 @@
 -- What stands where something else is needed, as the judges find it.
-use Rattle.std.proofs.Common.{◌≡◌, ℕ, not, false, true, Bool, List, ◌∷◌, ◌++◌, Option, Some, None, Bor, Contains, map, option_map, refl, sym, ap, ◌∙◌, subst, inl, inr, codes, Result, Ok, Err, [], arith}
+use Rattle.std.proofs.Common.{◌≡◌, ℕ, ◌<◌, ◌≤◌, ◌⊎◌, length, not, false, true, Bool, List, ◌∷◌, ◌++◌, Option, Some, None, Bor, Contains, option_map, refl, sym, ap, ◌∙◌, subst, inl, inr, codes, Result, Ok, Err, [], arith}
 use Rattle.std.specs.List.{find}
-use Rattle.std.proofs.Math.ListN.{get_or-map}
-use Rattle.std.proofs.lemmas.List.Elements.{Contains-append_left, Contains-append_right}
+use Rattle.std.proofs.lemmas.Bool.{and_parts}
+use Rattle.std.proofs.lemmas.Bool.Decides.{nat_tests}
+use Rattle.tsdl_flaw.specs.Asked.{maps}
+use Rattle.tsdl_grammar.specs.declared.tree.Name.{Name}
+use Rattle.std.proofs.lemmas.List.Elements.{Contains-append_right}
 use Rattle.tsdl_grammar.specs.declared.token.Mark.TheVariants as marks
 use Rattle.tsdl_grammar.specs.declared.tree.Value.TheVariants as values
-use Rattle.tsdl_flaw.specs.Misfits.{needs}
-use Rattle.tsdl_meaning.specs.declared.judge.block.BlockKind.TheVariants as kinds
+use Rattle.tsdl_grammar.specs.declared.tree.Label.{Label}
+use Rattle.tsdl_grammar.specs.declared.tree.Fact.{Fact}
+use Rattle.tsdl_meaning.specs.Judging.{is_name}
 use Rattle.tsdl_meaning.specs.declared.judge.kind.TypeKind.{TypeKind}
 use Rattle.tsdl_meaning.specs.declared.judge.kind.TypeKind.TheVariants as types
-use Rattle.tsdl_meaning.proofs.JudgedParts.{ends_part}
+use Rattle.tsdl_meaning.proofs.JudgedParts.{ends_more, ends_part}
 use Rattle.tsdl_meaning.proofs.StopsInAttributes.{list_opening}
-use Rattle.tsdl_meaning.proofs.TextWords.{Atom, Attribute, BlockKind, Bracket, Ends, IfErr, IsAsked, IsAttribute, IsBehindAlign, IsBehindWord, IsInBrackets, IsMisfit, IsNotedAttribute, Item, Ledger, Number, Stop, StopsWhere, Value, attr, attr_toks, attrs_in, begun, bracket_toks, first_texts, flat_map, is_some, length-map, mark, needed, number_toks, type_word, value_toks, word, word_of}
+use Rattle.tsdl_meaning.proofs.TextWords.{Atom, Attribute, BlockKind, Bracket, Ends, EndsFacts, IfErr, IsAttribute, IsInBrackets, IsMisfit, IsNotedAttribute, IsPartOfVersion, Item, Ledger, NamedFact, Number, Stop, StopsUnless, StopsWhere, Value, asked_in, attr, attr_toks, attrs_in, begun, bracket_toks, bytes_eq, bytes_eq-Decides, fact_meaning, fact_toks, first_texts, fits, flat_map, int_le, is_alignment, is_any_order, is_mapping, is_natural, is_order, is_size, is_some, label_toks, mark, named_fact_toks, natural, natural_value, needed_by, number_toks, order_value, signed_of, type_word, value_toks, word, word_of}
 
 -- ---- values
 
-pub unfit : (v : Value) (front : List Atom) → IsAsked front → IsMisfit front (value_toks v)
-unfit v front asked = inl (record { value = v; asked = asked; here = refl })
+-- a stop at what fits in no case
+pub misfits : (fits b : Bool) (at : ℕ) (toks : List Atom) (stop : Stop) → fits ≡ false → StopsUnless b at toks stop → StopsUnless fits at toks stop
+misfits fits b at toks stop e h = record { stops = λ front behind p. h.stops front behind (λ _. p e) }
 
-pub unfit_number : (n : Number) (front : List Atom) → IsAsked front → IsMisfit front (number_toks n)
-unfit_number n front asked = unfit (values.Number n) front asked
+-- what fails the one test fails the other
+unless : (a b : Bool) (at : ℕ) (toks : List Atom) (stop : Stop) → (b ≡ false → a ≡ false) → StopsUnless b at toks stop → StopsUnless a at toks stop
+unless a b at toks stop is h = record { stops = λ front behind p. h.stops front behind (λ e. p (is e)) }
 
-pub behind_word : (w : List ℕ) (front : List Atom) → IsBehindWord w front → IsAsked front
-behind_word w front ends = inl (ends_part front (word w ∷ []) (mark marks.Equals ∷ []) ends)
+-- a value that is no name is no word of a byte order
+no_order : (v : Value) → is_name v ≡ false → is_order v ≡ false
+no_order (values.Number n) e = refl
+no_order (values.Text s) e = refl
+no_order (values.Name n) e = absurd (let never : true ≡ false = e in cc)
 
-pub behind_align : (front : List Atom) → IsBehindAlign front → IsAsked front
-behind_align front (inl ends) = behind_word (codes "align") front ends
-behind_align front (inr ends) = inr (inl (ends_part front (word (codes "align") ∷ []) (mark marks.OpenParenthesis ∷ []) ends))
+no_any_order : (v : Value) → is_name v ≡ false → is_any_order v ≡ false
+unfolding order_value
+no_any_order (values.Number n) e = refl
+no_any_order (values.Text s) e = refl
+no_any_order (values.Name n) e = absurd (let never : true ≡ false = e in cc)
 
-pub in_attribute : (block w : List ℕ) (front : List Atom) → IsAttribute block w front → IsAsked front
-in_attribute block w front (items, ends) = behind_word w front (ends_part front (begun block items) (word w ∷ mark marks.Equals ∷ []) ends)
+pub order_unread : (v : Value) (at : ℕ) (stop : Stop) → StopsUnless (is_name v) at (value_toks v) stop → StopsUnless (is_order v) at (value_toks v) stop
+order_unread v at stop h = unless (is_order v) (is_name v) at (value_toks v) stop (no_order v) h
 
-pub in_brackets : (done : List Bracket) (front : List Atom) → IsInBrackets done front → IsAsked front
-in_brackets done front ends = inr (inr (inl (ends_part front (flat_map bracket_toks done) (mark marks.OpenBracket ∷ []) ends)))
+pub any_order_unread : (v : Value) (at : ℕ) (stop : Stop) → StopsUnless (is_name v) at (value_toks v) stop → StopsUnless (is_any_order v) at (value_toks v) stop
+any_order_unread v at stop h = unless (is_any_order v) (is_name v) at (value_toks v) stop (no_any_order v) h
 
--- a stop that a front allows is one behind a front that is such
-narrowed : {T : Type 0} (r : Result T Stop) (P Q : List Atom → Type 0) (at : ℕ) (toks : List Atom) → ((front : List Atom) → P front → Q front) → IfErr r (StopsWhere Q at toks) → IfErr r (StopsWhere P at toks)
-narrowed (Ok v) P Q at toks is h = tt
-narrowed (Err s) P Q at toks is h = λ front behind p. h front behind (is front p)
+-- ---- attributes
 
--- where a value is asked for by these
-pub asked_by_word : {T : Type 0} (r : Result T Stop) (w : List ℕ) (at : ℕ) (toks : List Atom) → IfErr r (StopsWhere IsAsked at toks) → IfErr r (StopsWhere (IsBehindWord w) at toks)
-asked_by_word r w at toks h = narrowed r (IsBehindWord w) IsAsked at toks (behind_word w) h
+pub attribute_unfit : (block w : List ℕ) (v : Value) (front : List Atom) → IsAttribute block w front → fits (asked_in block) w v ≡ false → IsMisfit front (value_toks v)
+attribute_unfit block w v front (items, ends) e = inl (record { block = block; items = items; name = w; value = v; ends = ends; unfit = e; here = refl })
 
-pub asked_by_align : {T : Type 0} (r : Result T Stop) (at : ℕ) (toks : List Atom) → IfErr r (StopsWhere IsAsked at toks) → IfErr r (StopsWhere IsBehindAlign at toks)
-asked_by_align r at toks h = narrowed r IsBehindAlign IsAsked at toks behind_align h
+pub asked_at : (block w : List ℕ) (v : Value) (at : ℕ) (stop : Stop) (b : Bool) → (b ≡ false → fits (asked_in block) w v ≡ false) → StopsUnless b at (value_toks v) stop
+    → StopsWhere (IsAttribute block w) at (value_toks v) stop
+asked_at block w v at stop b is h = λ front behind p. h.stops front behind (λ e. attribute_unfit block w v front p (is e))
 
-pub asked_by_attribute : {T : Type 0} (r : Result T Stop) (block w : List ℕ) (at : ℕ) (toks : List Atom) → IfErr r (StopsWhere IsAsked at toks) → IfErr r (StopsWhere (IsAttribute block w) at toks)
-asked_by_attribute r block w at toks h = narrowed r (IsAttribute block w) IsAsked at toks (in_attribute block w) h
+-- no number, and one that is no size
+pub no_size : (v : Value) → is_natural v ≡ false → is_size v ≡ false
+no_size v e = grind (arith, e)
 
-pub asked_behind : {T : Type 0} (r : Result T Stop) (ledger : Ledger) (block w : List ℕ) (at : ℕ) (toks : List Atom) → IfErr r (StopsWhere IsAsked at toks)
-    → IfErr r (StopsWhere (IsNotedAttribute ledger block w) at toks)
-asked_behind r ledger block w at toks h =
-    narrowed r (IsNotedAttribute ledger block w) IsAsked at toks (λ front p. in_attribute block w front p.attribute) h
+pub other_size : (v : Value) (n : ℕ) → natural_value v ≡ Some n → (n < 1) ⊎ (65 ≤ n) → is_size v ≡ false
+other_size v n e out = grind (arith, nat_tests, e, out)
+
+-- a value that is no name is not `clock.NAME.value`, which begins with `clock`
+pub no_mapping : (v : Value) → ((n : Name) → v ≡ values.Name n → ⊥) → is_mapping v ≡ false
+no_mapping (values.Number n) h = refl
+no_mapping (values.Text s) h = refl
+no_mapping (values.Name n) h = absurd (h n refl)
+
+pub mapping_parts : (first : List ℕ) (rest : List (List ℕ)) → maps (first ∷ rest) ≡ true → (first ≡ codes "clock") × (1 ≤ length rest)
+mapping_parts first [] e = absurd (let never : false ≡ true = e in cc)
+mapping_parts first (b ∷ []) e = absurd (let never : false ≡ true = e in cc)
+mapping_parts first (b ∷ c ∷ []) e = ((bytes_eq-Decides first (codes "clock")).0 (and_parts (bytes_eq first (codes "clock")) (bytes_eq c (codes "value")) e).0, omega arith)
+mapping_parts first (b ∷ c ∷ d ∷ rest) e = absurd (let never : false ≡ true = e in cc)
+
+-- the frequency, the precision and the offset of a clock are numbers
+pub cycles_ask : (w : List ℕ) (v : Value) → (w ≡ codes "freq") ⊎ (w ≡ codes "precision") ⊎ (w ≡ codes "offset") → is_natural v ≡ fits (asked_in (codes "clock")) w v
+cycles_ask w v (inl is) = sym (ap (λ (x : List ℕ). fits (asked_in (codes "clock")) x v) is)
+cycles_ask w v (inr (inl is)) = sym (ap (λ (x : List ℕ). fits (asked_in (codes "clock")) x v) is)
+cycles_ask w v (inr (inr is)) = sym (ap (λ (x : List ℕ). fits (asked_in (codes "clock")) x v) is)
+
+-- a part of the version is a number
+pub part_asks : (part : List ℕ) (v : Value) → IsPartOfVersion part → fits (asked_in (codes "trace")) part v ≡ is_natural v
+part_asks part v (inl is) = ap (λ (w : List ℕ). fits (asked_in (codes "trace")) w v) is
+part_asks part v (inr is) = ap (λ (w : List ℕ). fits (asked_in (codes "trace")) w v) is
+
+-- a stop at a value that its attribute is asked for
+pub in_asked : {T : Type 0} (r : Result T Stop) (block w : List ℕ) (v : Value) (at : ℕ) (b : Bool) → b ≡ fits (asked_in block) w v → IfErr r (StopsUnless b at (value_toks v))
+    → IfErr r (StopsWhere (IsAttribute block w) at (value_toks v))
+in_asked (Ok x) block w v at b is h = tt
+in_asked (Err s) block w v at b is h = λ front behind p. h.stops front behind (λ e. attribute_unfit block w v front p (sym is ∙ e))
+
+pub asked_behind : {T : Type 0} (r : Result T Stop) (ledger : Ledger) (block w : List ℕ) (v : Value) (at : ℕ) (b : Bool) → b ≡ fits (asked_in block) w v → IfErr r (StopsUnless b at (value_toks v))
+    → IfErr r (StopsWhere (IsNotedAttribute ledger block w) at (value_toks v))
+asked_behind (Ok x) ledger block w v at b is h = tt
+asked_behind (Err s) ledger block w v at b is h = λ front behind p. h.stops front behind (λ e. attribute_unfit block w v front p.attribute (sym is ∙ e))
+
+-- ---- numbers
+
+pub fact_unfit : (facts : List NamedFact) (name : List ℕ) (fact : Fact) (front : List Atom) → EndsFacts facts front → is_some (fact_meaning fact) ≡ false
+    → IsMisfit (front ++ word name ∷ mark marks.Equals ∷ []) (fact_toks fact)
+fact_unfit facts name fact front ends e = inr (inl (record {
+  facts = facts;
+  name = name;
+  fact = fact;
+  ends = ends_more front (word (codes "env") ∷ mark marks.OpenBrace ∷ flat_map named_fact_toks facts) (word name ∷ mark marks.Equals ∷ []) ends;
+  unfit = e;
+  here = refl;
+}))
+
+pub alignment_unfit : (n : Number) (front : List Atom) → Ends front (word (codes "align") ∷ mark marks.OpenParenthesis ∷ []) → is_alignment (values.Number n) ≡ false → IsMisfit front (number_toks n)
+alignment_unfit n front ends e = inr (inr (inl (record { number = n; ends = ends; unfit = e; here = refl })))
+
+pub length_unfit : (done : List Bracket) (n : Number) (front : List Atom) → IsInBrackets done front → is_some (natural n) ≡ false → IsMisfit front (number_toks n)
+length_unfit done n front ends e =
+    inr (inr (inr (inl (record { number = n; ends = ends_part front (flat_map bracket_toks done) (mark marks.OpenBracket ∷ []) ends; unfit = e; here = refl }))))
+
+pub range_unfit : (label : Label) (low high : Number) (front : List Atom) → int_le (signed_of low) (signed_of high) ≡ false
+    → IsMisfit (front ++ (label_toks label ++ mark marks.Equals ∷ number_toks low ++ mark marks.Ellipsis ∷ [])) (number_toks high)
+range_unfit label low high front e = inr (inr (inr (inr (inl (record { label = label; low = low; high = high; ends = (front, refl); unfit = e; here = refl })))))
 
 -- the name of a clock that is not there
 pub clock_missed : (front : List Atom) (first w : List ℕ) → first ≡ codes "clock" → IsMisfit (front ++ word first ∷ mark marks.Dot ∷ []) (word w ∷ [])
 clock_missed front first w is =
-    subst (λ (v : List ℕ). IsMisfit (front ++ word v ∷ mark marks.Dot ∷ []) (word w ∷ [])) (sym is) (inr (inl (record { name = w; ends = (front, refl); here = refl })))
+    subst (λ (v : List ℕ). IsMisfit (front ++ word v ∷ mark marks.Dot ∷ []) (word w ∷ [])) (sym is) (inr (inr (inr (inr (inr (inl (record { name = w; ends = (front, refl); here = refl })))))))
 
 -- ---- closing braces
 
@@ -70,7 +135,7 @@ pub size_missed : (kind : TypeKind) (attrs : List Attribute) (front : List Atom)
     → IsMisfit (front ++ (list_opening (type_word kind) ++ flat_map attr_toks attrs)) (mark marks.CloseBrace ∷ [])
 size_missed kind attrs front size is e none =
     subst (λ (k : TypeKind). IsMisfit (front ++ (list_opening (type_word k) ++ flat_map attr_toks attrs)) (mark marks.CloseBrace ∷ [])) (sym is)
-    (inr (inr (inr (record { attributes = attrs; ends = (front, refl); missing = none_seen size (attr (codes "size") attrs) e none; here = refl }))))
+    (inr (inr (inr (inr (inr (inr (inr (record { attributes = attrs; ends = (front, refl); missing = none_seen size (attr (codes "size") attrs) e none; here = refl }))))))))
 
 -- a row that is missed is one of the table, and its name is not there
 pub row_missed : (there : List ℕ → Bool) (rows : List (Bor (List ℕ) × Bor (List ℕ))) (row : Bor (List ℕ) × Bor (List ℕ)) → find (λ r. not (there r.0.now)) rows ≡ Some row
@@ -88,41 +153,19 @@ row_missed there (r ∷ rows) row e = by (there r.0.now) refl (row_missed there 
         let first : Contains (first_texts (r ∷ rows)) r.0.now × (there r.0.now ≡ false) = ((0, omega arith, refl), f) in
         subst (λ (x : Bor (List ℕ) × Bor (List ℕ)). Contains (first_texts (r ∷ rows)) x.0.now × (there x.0.now ≡ false)) same first
 
--- the rows of a block
-abbrev rows : BlockKind → List (List ℕ × List ℕ)
-rows kind = map (λ name. (word_of kind, name)) (needed kind)
-
-in_rows : (kind : BlockKind) (name : List ℕ) → Contains (needed kind) name → Contains (rows kind) (word_of kind, name)
-in_rows kind name there =
-    let row : List ℕ → List ℕ × List ℕ = λ n. (word_of kind, n) in
-    let long = length-map (needed kind) row in
-    let within = there.1 in
-    let it : Contains (rows kind) (word_of kind, name) = (there.0, omega arith, get_or-map row (needed kind) there.0 name ∙ ap row there.2) in it
-
--- what a block needs is in the table of all
-needed_of : (kind : BlockKind) (name : List ℕ) → Contains (needed kind) name → Contains needs (word_of kind, name)
-needed_of kinds.Trace name there = Contains-append_left (rows kinds.Trace) (rows kinds.Event ++ rows kinds.Clock) (codes "trace", name) (in_rows kinds.Trace name there)
-needed_of kinds.Stream name there = absurd (let h = there.1 in omega arith)
-needed_of kinds.Event name there =
-    Contains-append_right (rows kinds.Trace) (rows kinds.Event ++ rows kinds.Clock) (codes "event", name)
-    (Contains-append_left (rows kinds.Event) (rows kinds.Clock) (codes "event", name) (in_rows kinds.Event name there))
-needed_of kinds.Clock name there =
-    Contains-append_right (rows kinds.Trace) (rows kinds.Event ++ rows kinds.Clock) (codes "clock", name)
-    (Contains-append_right (rows kinds.Event) (rows kinds.Clock) (codes "clock", name) (in_rows kinds.Clock name there))
-
 -- a block without an attribute that it needs
-pub attribute_missed : (kind : BlockKind) (items : List Item) (name : List ℕ) (front : List Atom) → Contains (needed kind) name → is_some (attr name (attrs_in items)) ≡ false → Ends front (begun (word_of kind) items)
+pub attribute_missed : (kind : BlockKind) (items : List Item) (name : List ℕ) (front : List Atom) → Contains (needed_by (word_of kind)) name → is_some (attr name (attrs_in items)) ≡ false → Ends front (begun (word_of kind) items)
     → IsMisfit front (mark marks.CloseBrace ∷ [])
 attribute_missed kind items name front there none ends =
-    inr (inr (inl (record {
+    inr (inr (inr (inr (inr (inr (inl (record {
       block = word_of kind;
       items = items;
       name = name;
-      needed = needed_of kind name there;
+      needed = there;
       ends = ends;
       missing = none_is (attr name (attrs_in items)) none;
       here = refl;
-    })))
+    })))))))
   where
     none_is : (o : Option Value) → is_some o ≡ false → o ≡ None
     none_is None h = refl

@@ -1,6 +1,6 @@
 -- Names that have stood before, and a stop in a part of an attribute.
 use Rattle.std.proofs.Common.{◌≡◌, ℕ, ◌+◌, List, ◌∷◌, ◌++◌, map, length, min, sym, ◌∙◌, arith, append_assoc, length-append, ◌≤◌, Bool, true, false, ◌||◌, refl, ap, subst, inl, inr, []}
-use Rattle.tsdl_meaning.proofs.TextWords.{AreNamed, Atom, Attribute, BTreeSet, Global, HasLength, HasNames, IsNameTwice, IsNamed, Item, Name, Stop, StopsIn, String, attr_in, attr_toks, bytes_eq, bytes_eq-Decides, cases_Bool, contains_text, dotted, flat_map, item_toks, list_any, map-id, mark, most, name_toks, scope_in, stops_after, value_toks, word, written, or-false}
+use Rattle.tsdl_meaning.proofs.TextWords.{AreNamed, Atom, Attribute, BTreeSet, Global, HasLength, HasNames, IsNameTwice, IsNamed, IsTypeBegun, Item, Name, Stop, StopsIn, String, attr_in, attr_toks, bytes_eq, bytes_eq-Decides, cases_Bool, contains_text, dotted, flat_map, item_toks, list_any, map-id, mark, most, name_toks, scope_in, stops_after, value_toks, word, written, or-false}
 use Rattle.tsdl_grammar.specs.declared.token.Mark.TheVariants as marks
 use Rattle.tsdl_grammar.specs.declared.tree.Item.TheVariants as items
 use Rattle.tsdl_grammar.specs.declared.token.Mark.{Mark}
@@ -55,15 +55,19 @@ pub scope_named : (i : Item) (w : List ℕ) → list_any (λ s. bytes_eq w (writ
 scope_named (items.Attribute a) w e = absurd cc
 scope_named (items.Scope s) w e = (s.name, written_so w s.name e, Contains-push [] (s.name, marks.Assign))
 
--- the attributes of a type, which are items
-pub attributes_named : (front : List Atom) (block : List ℕ) (names : BTreeSet (String Global)) (attrs : List Attribute) → HasNames names (map (λ a. written a.name) attrs)
-    → AreNamed (front ++ (list_opening block ++ flat_map attr_toks attrs)) marks.Equals names
-attributes_named front block names attrs has =
+-- the attributes of a type are items
+pub type_begun : (front : List Atom) (w : List ℕ) (names : BTreeSet (String Global)) (attrs : List Attribute) → HasNames names (map (λ a. written a.name) attrs)
+    → IsTypeBegun w names (front ++ (list_opening w ++ flat_map attr_toks attrs))
+type_begun front w names attrs has =
     let item = λ (a : Attribute). items.Attribute a in
-    let same : flat_map attr_in (map item attrs) ≡ attrs = flat_map-map attr_in item attrs ∙ flat_map_single (λ (a : Attribute). a) attrs ∙ map-id attrs in
-    subst (λ (l : List Atom). AreNamed (front ++ (list_opening block ++ l)) marks.Equals names) (flat_map-map item_toks item attrs)
-    (are_named attr_in (λ a. a.name) marks.Equals front block names (map item attrs) attribute_named
-    (subst (λ (l : List Attribute). HasNames names (map (λ (a : Attribute). written a.name) l)) (sym same) has))
+    let own = map item attrs in
+    let same : flat_map attr_in own ≡ attrs = flat_map-map attr_in item attrs ∙ flat_map_single (λ (a : Attribute). a) attrs ∙ map-id attrs in
+    subst (λ (l : List Atom). IsTypeBegun w names (front ++ (list_opening w ++ l))) (flat_map-map item_toks item attrs)
+    (record {
+      items = own;
+      ends = (front, refl);
+      named = are_named attr_in (λ a. a.name) marks.Equals front w names own attribute_named (subst (λ (l : List Attribute). HasNames names (map (λ (a : Attribute). written a.name) l)) (sym same) has);
+    })
 
 -- a name that is there already
 pub named_twice : (names : BTreeSet (String Global)) (front behind : List Atom) (sign : Mark) (n : Name) (at counted before end : ℕ) → contains_text names (written n) ≡ true → AreNamed front sign names

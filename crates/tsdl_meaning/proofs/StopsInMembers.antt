@@ -1,6 +1,6 @@
 -- A stop in a part of a member, of its kind or its brackets, is a stop in the structure.
 use Rattle.std.proofs.Common.{◌≡◌, ℕ, ◌+◌, ◌≤◌, ◌<◌, true, List, ◌∷◌, ◌++◌, Option, Some, length, take, get_or, min, refl, sym, ap, ◌∙◌, subst, inl, inr, arith, append_assoc, length-take, codes, ◌*◌, ◌⊎◌, max, string_bytes, Contains, []}
-use Rattle.tsdl_meaning.proofs.TextWords.{AreBrackets, Atom, Bracket, Entry, Global, IsBehindAlign, IsBehindBrace, IsBehindKind, IsInBrackets, IsMemberTooMany, IsMemberTwice, IsPassed, IsRangeTooMany, IsTwice, IsUnsupported, Kind, MAX_ARRAYS, MAX_ELEMENTS, MAX_MEMBERS, MAX_RANGES, MemberTree, MemberType, Number, PassesLimit, StandsBehind, Stop, StopsIn, StopsWhere, String, Structure, align_toks, append-nil, behind_more, bracket_toks, depth, elements, entry_toks, false≢true, flat_map, kind_toks, label_toks, length-map, mark, member_toks, most, names_in, natural, next_entry_toks, number_toks, stops_after, struct_toks, word}
+use Rattle.tsdl_meaning.proofs.TextWords.{AreBrackets, AsksAlignment, Atom, Bracket, Ends, Entry, Global, IsBehindBrace, IsBehindKind, IsInBrackets, IsMemberTooMany, IsMemberTwice, IsPassed, IsRangeTooMany, IsTwice, IsUnsupported, Kind, MAX_ARRAYS, MAX_ELEMENTS, MAX_MEMBERS, MAX_RANGES, MemberTree, MemberType, Number, PassesLimit, StandsBehind, Stop, StopsIn, StopsWhere, String, Structure, align_toks, append-nil, behind_more, bracket_toks, depth, elements, entry_toks, false≢true, flat_map, kind_toks, label_toks, length-map, mark, member_toks, most, names_in, natural, next_entry_toks, number_toks, stops_after, struct_toks, word}
 use Rattle.tsdl_grammar.specs.declared.token.Mark.TheVariants as marks
 use Rattle.tsdl_grammar.specs.declared.tree.Label.{Label}
 use Rattle.tsdl_grammar.specs.declared.tree.Bracket.TheVariants as brackets
@@ -8,6 +8,7 @@ use Rattle.tsdl_meaning.specs.declared.judge.brackets.Lengths.{Lengths}
 use Rattle.tsdl_meaning.specs.MembersBefore.{AreMembers}
 use Rattle.tsdl_meaning.proofs.FlawlessTypes.{lengths_of}
 use Rattle.tsdl_meaning.proofs.JudgedParts.{in_item, in_part}
+use Rattle.tsdl_meaning.proofs.Misfits.{alignment_unfit}
 
 pub label_length : (l : Label) → length (label_toks l) ≡ 1
 label_length l = grind arith
@@ -113,7 +114,7 @@ struct_parts s = simp append_assoc
 
 -- a stop in the alignment
 pub in_align : (s : Structure) (n : Number) (front behind : List Atom) (at next place : ℕ) (stop : Stop) → s.align ≡ Some n → StandsBehind at (struct_opening ++ flat_map member_toks s.members) next
-    → place ≡ min (next + 3) most → StopsWhere IsBehindAlign place (number_toks n) stop → StopsIn front at (struct_toks s ++ behind) stop
+    → place ≡ min (next + 3) most → StopsWhere (AsksAlignment n) place (number_toks n) stop → StopsIn front at (struct_toks s ++ behind) stop
 in_align s n front behind at next place stop is stands passes f =
     let members = struct_opening ++ flat_map member_toks s.members in
     let opening = mark marks.CloseBrace ∷ word (codes "align") ∷ mark marks.OpenParenthesis ∷ [] in
@@ -123,4 +124,6 @@ in_align s n front behind at next place stop is stands passes f =
     ∙ sym (append_assoc members opening (number_toks n ++ closing) ∙ append_assoc struct_opening (flat_map member_toks s.members) (opening ++ (number_toks n ++ closing)))
     in
     in_part (struct_toks s) (members ++ opening) (number_toks n) closing front behind at place stop e (behind_more members opening at next 3 place stands (λ h. refl) passes)
-    (f (front ++ (members ++ opening)) (closing ++ behind) (inr (front ++ (members ++ mark marks.CloseBrace ∷ []), simp append_assoc)))
+    (let before = front ++ (members ++ opening) in
+    let ends : Ends before (word (codes "align") ∷ mark marks.OpenParenthesis ∷ []) = (front ++ (members ++ mark marks.CloseBrace ∷ []), simp append_assoc) in
+    f before (closing ++ behind) (inr ends, alignment_unfit n before ends))

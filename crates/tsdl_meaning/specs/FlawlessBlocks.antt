@@ -15,13 +15,14 @@ use Rattle.tsdl_grammar.specs.declared.tree.Value.{Value}
 use Rattle.tsdl_grammar.specs.declared.tree.Attribute.{Attribute}
 use Rattle.tsdl_grammar.specs.declared.tree.Scope.{Scope}
 use Rattle.tsdl_grammar.specs.declared.tree.Item.{Item}
-use Rattle.tsdl_grammar.specs.Steps.{◌>>=◌}
 use Rattle.tsdl_grammar.specs.Lookups.{words_of, same_words, attr, attrs_in, scopes_in, attr_names, are_distinct}
-use Rattle.tsdl_grammar.specs.AttributeValues.{natural_value, whole_value, text_value, word_value, name_value, flag_value, uuid_value, one_word, meant_by}
+use Rattle.tsdl_grammar.specs.AttributeValues.{natural_value, name_value, one_word}
 use Rattle.tsdl_grammar.specs.IntegerMeaning.{Known}
-use Rattle.tsdl_grammar.specs.BlockMeaning.{order_table, packet_header, packet_context, event_header, event_context, specific_context, fields_scope}
+use Rattle.tsdl_grammar.specs.BlockMeaning.{packet_header, packet_context, event_header, event_context, specific_context, fields_scope}
 use Rattle.tsdl_flaw.specs.Written.{written}
 use Rattle.tsdl_flaw.specs.Twice.{HasNumbers}
+use Rattle.tsdl_flaw.specs.Asked.{Asked, fits, of_trace, of_stream, of_event, of_clock}
+use Rattle.tsdl_flaw.specs.Misfits.{needed_by}
 use Rattle.tsdl_meaning.specs.declared.judge.block.BlockKind.{BlockKind}
 use Rattle.tsdl_meaning.specs.declared.judge.block.BlockKind.TheVariants as kinds
 use Rattle.tsdl_meaning.specs.declared.judge.ledger.Ledger.{Ledger}
@@ -29,22 +30,14 @@ use Rattle.tsdl_meaning.specs.declared.scope_rule.ScopeRule.{ScopeRule}
 use Rattle.tsdl_meaning.specs.declared.scope_rule.ScopeRule.TheVariants.{AnyMembers, PacketHeader, PacketContext, EventHeader}
 use Rattle.tsdl_meaning.specs.Names.{texts_of}
 use Rattle.tsdl_meaning.specs.Ledgers.{pair_cmp}
+use Rattle.tsdl_meaning.specs.Blocks.{word_of}
 use Rattle.tsdl_meaning.specs.FlawlessStructures.{IsFlawless}
 
 -- ---- attributes
 
--- names of attributes, and what each one asks of its value
-abbrev pub Asked : Type 0
-Asked = List (List ℕ × (Value → Bool))
-
+-- this number alone
 abbrev pub is_number : ℕ → Value → Bool
 is_number n v = option_map_or (λ m. m == n) (natural_value v) false
-
-abbrev pub is_order : Value → Bool
-is_order v = is_some (word_value v >>= meant_by order_table)
-
-abbrev pub is_natural : Value → Bool
-is_natural v = is_some (natural_value v)
 
 -- a number that no stream of the ledger has
 abbrev pub is_new_number : Ledger → Value → Bool
@@ -54,34 +47,21 @@ is_new_number ledger v = option_map_or (λ n. not (contains nat_cmp ledger.strea
 abbrev pub is_new_name : Ledger → Value → Bool
 is_new_name ledger v = option_map_or (λ name. not (contains_text ledger.clocks name)) (name_value v) false
 
-abbrev pub of_trace : Asked
-of_trace = (codes "byte_order", is_order) ∷ (codes "major", is_number 1) ∷ (codes "minor", is_number 8) ∷ (codes "uuid", λ v. is_some (uuid_value v)) ∷ []
+-- of two rows of a name the first one counts
+abbrev pub trace_asks : Asked
+trace_asks = (codes "major", is_number 1) ∷ (codes "minor", is_number 8) ∷ of_trace
 
-abbrev pub of_stream : Ledger → Asked
-of_stream ledger = (codes "id", is_new_number ledger) ∷ []
+abbrev pub stream_asks : Ledger → Asked
+stream_asks ledger = (codes "id", is_new_number ledger) ∷ of_stream
 
-abbrev pub of_event : Asked
-of_event = (codes "name", λ v. is_some (name_value v)) ∷ (codes "id", is_natural) ∷ (codes "stream_id", is_natural) ∷ (codes "loglevel", is_natural) ∷ []
-
-abbrev pub of_clock : Ledger → Asked
-of_clock ledger =
-    (codes "name", is_new_name ledger) ∷ (codes "uuid", λ v. is_some (uuid_value v)) ∷ (codes "description", λ v. is_some (text_value v))
-    ∷ (codes "freq", is_natural) ∷ (codes "precision", is_natural) ∷ (codes "offset", is_natural) ∷ (codes "offset_s", λ v. is_some (whole_value v))
-    ∷ (codes "absolute", λ v. is_some (flag_value v)) ∷ []
+abbrev pub clock_asks : Ledger → Asked
+clock_asks ledger = (codes "name", is_new_name ledger) ∷ of_clock
 
 abbrev pub asked_of : BlockKind → Ledger → Asked
-asked_of kinds.Trace ledger = of_trace
-asked_of kinds.Stream ledger = of_stream ledger
+asked_of kinds.Trace ledger = trace_asks
+asked_of kinds.Stream ledger = stream_asks ledger
 asked_of kinds.Event ledger = of_event
-asked_of kinds.Clock ledger = of_clock ledger
-
-abbrev pub passes : Option (Value → Bool) → Value → Bool
-passes None v = true
-passes (Some test) v = test v
-
--- a value is what the attribute of this name is asked for
-abbrev pub fits : Asked → List ℕ → Value → Bool
-fits asked w v = passes (meant_by asked w) v
+asked_of kinds.Clock ledger = clock_asks ledger
 
 abbrev pub fits_word : Asked → Option (List ℕ) → Value → Bool
 fits_word asked None v = true
@@ -89,13 +69,6 @@ fits_word asked (Some w) v = fits asked w v
 
 abbrev pub is_fit : Asked → Attribute → Bool
 is_fit asked a = fits_word asked (one_word a.name) a.value
-
--- the attributes that a block has to have
-abbrev pub needed : BlockKind → List (List ℕ)
-needed kinds.Trace = codes "major" ∷ codes "minor" ∷ codes "byte_order" ∷ []
-needed kinds.Stream = []
-needed kinds.Event = codes "name" ∷ []
-needed kinds.Clock = codes "name" ∷ []
 
 -- the names of a table of needed attributes
 abbrev pub first_texts : List (Bor (List ℕ) × Bor (List ℕ)) → List (List ℕ)
@@ -152,7 +125,7 @@ IsNumberedAnew kinds.Event ledger is = (stream id : ℕ) → HasNumbers is strea
 IsNumberedAnew kinds.Clock ledger is = Unit {0}
 
 pub record IsEnded (kind : BlockKind) (ledger : Ledger) (is : List Item) : Type 0 where
-  pub complete : list_all (λ w. is_some (attr w (attrs_in is))) (needed kind) ≡ true
+  pub complete : list_all (λ w. is_some (attr w (attrs_in is))) (needed_by (word_of kind)) ≡ true
   pub anew : IsNumberedAnew kind ledger is
 
 -- the attributes and scopes of a block without a flaw

@@ -10,7 +10,10 @@ offered (w ∷ []) = codes "`" ++ (w ++ codes "`")
 offered (w ∷ v ∷ []) = codes "`" ++ (w ++ (codes "` or `" ++ (v ++ codes "`")))
 offered (w ∷ v ∷ u ∷ ws) = codes "`" ++ (w ++ (codes "`, " ++ offered (v ∷ u ∷ ws)))
 
--- the words of a byte order that an integer may have: of the trace's own one, where that is known
+-- the words for the byte order of an integer: those of the trace's own one, where that is known
+abbrev pub words_by : Option ByteOrder → List (List ℕ)
+words_by None = codes "native" ∷ []
+words_by (Some order) = order_words order
+
 abbrev pub orders_offered : Option ByteOrder → List ℕ
-orders_offered None = offered (codes "native" ∷ [])
-orders_offered (Some order) = offered (order_words order)
+orders_offered trace = offered (words_by trace)

@@ -28,11 +28,12 @@ pub use Rattle.std.specs.Str.{bytes_eq, is_utf8}
 pub use Rattle.std.specs.String.{string_bytes}
 pub use Rattle.std.specs.declared.alloc.Global.{Global}
 pub use Rattle.std.specs.declared.string.String.{String}
+pub use Rattle.tsdl_flaw.specs.Asked.{Asked, asked_in, fits, is_alignment, is_any_order, is_base, is_encoding, is_flag, is_identity, is_label, is_mapping, is_natural, is_order, is_size, is_text, is_whole, of_clock, of_event, of_integer, of_string, passes}
 pub use Rattle.tsdl_flaw.specs.Flaws.{IsPartOfVersion, IsUnsupported, IsWrong}
 pub use Rattle.tsdl_flaw.specs.Fronts.{Ends, Holds}
 pub use Rattle.tsdl_flaw.specs.Lengths.{HasLength, most}
 pub use Rattle.tsdl_flaw.specs.Limits.{IsLargeAlignment, IsLongLength, IsMemberTooMany, IsPassed, IsRangeTooMany, depth, elements}
-pub use Rattle.tsdl_flaw.specs.Misfits.{IsAsked, IsMisfit}
+pub use Rattle.tsdl_flaw.specs.Misfits.{IsMisfit, needed_by}
 pub use Rattle.tsdl_flaw.specs.Places.{StandsBehind}
 pub use Rattle.tsdl_flaw.specs.Stopping.{StopsIn, kind_of}
 pub use Rattle.tsdl_flaw.specs.TextStops.{IfFault, StopsText}
@@ -68,15 +69,15 @@ pub use Rattle.tsdl_grammar.specs.declared.tree.Structure.{Structure}
 pub use Rattle.tsdl_grammar.specs.declared.tree.Value.{Value}
 pub use Rattle.tsdl_meaning.specs.Blocks.{IsBegun, IsNotedAttribute, word_of}
 pub use Rattle.tsdl_meaning.specs.BracketLengths.{Adds, IsBehindBrackets, IsInBracket, IsInBrackets, PassesLimit}
-pub use Rattle.tsdl_meaning.specs.FlawlessBlocks.{AddsAttribute, AddsName, AddsScope, AreFlawless, Asked, IsEnded, IsFlawlessBlock, IsFlawlessScope, IsNumberedAnew, asked_of, first_texts, fits, fits_word, is_fit, is_number, is_order, named_rules, needed, of_clock, of_event, of_stream, of_trace, passes, rule_in, scopes_of}
+pub use Rattle.tsdl_meaning.specs.FlawlessBlocks.{AddsAttribute, AddsName, AddsScope, AreFlawless, IsEnded, IsFlawlessBlock, IsFlawlessScope, IsNumberedAnew, asked_of, clock_asks, first_texts, fits_word, is_fit, is_number, named_rules, rule_in, scopes_of, stream_asks, trace_asks}
 pub use Rattle.tsdl_meaning.specs.FlawlessBrackets.{AreBrackets, HaveNumbers, KeepsLimits, NameLength}
 pub use Rattle.tsdl_meaning.specs.FlawlessStructures.{AddsMember, IsFlawless}
 pub use Rattle.tsdl_meaning.specs.FlawlessTexts.{AddsBlock, AddsClock, AddsFact, AddsStream, HaveStreams, IsEmpty, IsFlawlessBehind, LacksBlocks, LacksStream, MeanEntries, Surveys}
-pub use Rattle.tsdl_meaning.specs.FlawlessTypes.{AreRanges, is_alignment, is_size, of_integer, of_string, own_asked, own_attrs, string_attrs, tree_of, type_word}
+pub use Rattle.tsdl_meaning.specs.FlawlessTypes.{AreRanges, integer_asks, own_asked, own_attrs, string_attrs, tree_of, type_word}
 pub use Rattle.tsdl_meaning.specs.Fronts.{with_front}
 pub use Rattle.tsdl_meaning.specs.Groups.{AddsEvent, OthersStay, group_of, with_group, with_own}
-pub use Rattle.tsdl_meaning.specs.Judged.{EndsFacts, IsAttribute, StopsAmong, StopsWhere}
-pub use Rattle.tsdl_meaning.specs.Judging.{IsBehindAlign, IsBehindBrace, IsBehindWord}
+pub use Rattle.tsdl_meaning.specs.Judged.{EndsFacts, IsAttribute, StopsAmong, StopsUnless, StopsWhere}
+pub use Rattle.tsdl_meaning.specs.Judging.{AsksAlignment, IsBehindAlign, IsBehindBrace, IsTypeBegun}
 pub use Rattle.tsdl_meaning.specs.Ledgers.{AreNoted, HasClock, HasEvent, HasStream, pair_cmp}
 pub use Rattle.tsdl_meaning.specs.Members.{IsLengthAt, text_leaf}
 pub use Rattle.tsdl_meaning.specs.MembersBefore.{AreMembers, IsBehindKind, IsBehindMembers}

@@ -1,8 +1,8 @@
 //! What `integer { .. }` means (CTF 1.8.3, section 4.1.5).
 
-ghost use Rattle.tsdl_meaning.specs.OfferedWords.{orders_offered};
+ghost use Rattle.tsdl_meaning.specs.OfferedWords.{orders_offered, words_by};
 ghost use Rattle.std.specs.Prelude.{◌≡◌, option_map, IfOk};
-ghost use Rattle.tsdl_meaning.specs.Words.{meant_by, int_type, default_align, base_words, base_value, order_words, order_value, clock_value, int_meaning, texts_of};
+ghost use Rattle.tsdl_meaning.specs.Words.{meant_by, int_type, default_align, base_words, base_value, order_value, clock_value, is_mapping, int_meaning, texts_of};
 
 use crate::known::Known;
 use crate::lookup::{attr, has_only};
@@ -74,20 +74,21 @@ fn default_align(size: u64) -> u64
 pub(crate) fn order_value(order: ByteOrder, value: &Value) -> Option<ByteOrder>
     ensures { result ≡ order_value order value.now }
 {
-    is_among(word_value(value)?.as_str(), order_words(order)).then_some(order)
+    is_among(word_value(value)?.as_str(), order_words(Some(order))).then_some(order)
 }
 
-/// The words for a trace's byte order.
-fn order_words(order: ByteOrder) -> &'static [&'static str]
-    ensures { texts_of result.now ≡ order_words order }
+/// The words for the byte order of an integer, by the trace's own one.
+pub(crate) fn order_words(trace: Option<ByteOrder>) -> &'static [&'static str]
+    ensures { texts_of result.now ≡ words_by trace }
 {
-    match order {
-        ByteOrder::Little => &["native", "le"],
-        ByteOrder::Big => &["native", "be", "network"],
+    match trace {
+        None => &["native"],
+        Some(ByteOrder::Little) => &["native", "le"],
+        Some(ByteOrder::Big) => &["native", "be", "network"],
     }
 }
 
-/// The byte orders that an integer may have, by the trace's own one, in words.
+/// The same in words.
 #[tactic(auto, unfolding(crate::specs::OfferedWords::offered))]
 pub(crate) fn orders_of(trace: Option<ByteOrder>) -> &'static str
     ensures { result.now ≡ orders_offered trace }
@@ -99,7 +100,16 @@ pub(crate) fn orders_of(trace: Option<ByteOrder>) -> &'static str
     }
 }
 
-/// The bases that an integer may have, in words, of which some are shortened too.
+/// Whether a word is one for just one byte order, as `native` is not.
+pub(crate) fn names_order(word: &str) -> bool {
+    let is_little = is_among(word, order_words(Some(ByteOrder::Little)));
+    is_little != is_among(word, order_words(Some(ByteOrder::Big)))
+}
+
+/// The numbers of the bases that an integer may have, in words.
+pub(crate) const BASE_NUMBERS: &str = "2, 8, 10 or 16";
+
+/// The same, and the words for them, of which some are shortened too.
 pub(crate) const BASES: &str = "2, 8, 10, 16, `binary`, `octal`, `decimal` or `hexadecimal`";
 
 #[tactic(auto, unfolding(tsdl_grammar::specs::IntegerMeaning::base_value))]
@@ -145,5 +155,18 @@ pub(crate) fn clock_value<'a>(known: &Known, value: &'a Value) -> Option<&'a Tex
             [] | [_] | [_, _, _, ..] => None,
         },
         Value::Number(_) | Value::Text(_) => None,
+    }
+}
+
+/// Whether a value is `clock.NAME.value`.
+pub(crate) fn is_mapping(value: &Value) -> bool
+    ensures { result ≡ is_mapping value.now }
+{
+    match value {
+        Value::Name(name) => match name.rest.as_slice() {
+            [_, last] => name.first.as_str() == "clock" && last.as_str() == "value",
+            [] | [_] | [_, _, _, ..] => false,
+        },
+        Value::Number(_) | Value::Text(_) => false,
     }
 }

@@ -28,6 +28,9 @@ pub fn natural(number: Number) -> Option<u64>
     u64::try_from(signed_of(number)).ok()
 }
 
+/// The numbers of `whole`.
+pub(crate) const WHOLE: &str = "a number from -2^63 to 2^63 - 1";
+
 /// A number from -2^63 to 2^63 - 1.
 pub fn whole(number: Number) -> Option<i64>
     ensures { result ≡ whole number }
@@ -84,6 +87,9 @@ pub(crate) fn name_value(value: &Value) -> Option<&Text>
 {
     text_value(value).or(word_value(value))
 }
+
+/// What `flag_value` reads.
+pub(crate) const FLAGS: &str = "`true`, `TRUE`, `1`, `false`, `FALSE` or `0`";
 
 /// `true TRUE 1 false FALSE 0`.
 #[tactic(auto, unfolding(tsdl_grammar::specs::AttributeValues::flag_value))]

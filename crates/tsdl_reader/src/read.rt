@@ -22,9 +22,9 @@ use tsdl_meaning::denoted_is_allowed;
 /// begin with its magic line, `Token` at the first byte at which no token starts, and else the first fault of its
 /// grammar or its meaning, at the token where it stands or at the end of the text, `NoPacketSize` only there, where a
 /// stream block lacks a size. `Syntax` is where the tokens stop spelling blocks: those before can go on as blocks, and
-/// with the one that stands there they cannot; or at a value that does not fit, at the name of a clock that is not
-/// there, at a brace that closes what still needs an attribute, or at the end of a text without a trace block or with
-/// an event of no stream. `Unsupported` names what is spelled at its place, or the version's part whose number is
+/// with the one that stands there they cannot; or at a value that is not what its place asks for, at the name of a clock
+/// that is not there, at a brace that closes what still needs an attribute, or at the end of a text without a trace
+/// block or with an event of no stream. `Unsupported` names what is spelled at its place, or the version's part whose number is
 /// there; `BadLength` is at a word behind a bracket.
 pub fn read_metadata(alloc: Global, text: &[u8]) -> Result<Metadata, MetaFault>
     ensures found { IfOk result (λ m. Denotes text.now m × IsMetadata m) }

@@ -1,8 +1,8 @@
 //! The first flaw of an attribute of a block. An attribute that no rule names is passed over.
-#![tactic(auto, using(crate::proofs::Misfits::asked_by_attribute, crate::proofs::Misfits::asked_behind))]
+#![tactic(auto, using(crate::proofs::Misfits::asked_behind))]
 
 ghost use Rattle.std.specs.Prelude.{List, IfOk, IfErr, IsTrue, codes};
-ghost use Rattle.tsdl_meaning.specs.Words.{Item, attr_toks, value_toks, IsPartOfVersion, StopsWhere, IsAsked, IsAttribute, IsNotedAttribute, AreNamed, IsBegun, word_of, AddsAttribute, is_fit, asked_of, fits, is_order, is_number};
+ghost use Rattle.tsdl_meaning.specs.Words.{Item, attr_toks, value_toks, IsPartOfVersion, StopsWhere, StopsUnless, IsAttribute, IsNotedAttribute, AreNamed, IsBegun, word_of, AddsAttribute, is_fit, asked_of, fits, is_order, is_number};
 ghost use Rattle.tsdl_grammar.specs.declared.token.Mark.TheVariants as marks;
 
 use crate::judge::block::{BlockKind, Judging};
@@ -81,9 +81,10 @@ fn judge_named(judging: &Judging, word: &str, value: &Value, at: usize) -> Resul
 }
 
 /// Judges the byte order of a trace.
+#[tactic(auto, using(crate::proofs::Misfits::order_unread))]
 fn judge_order(alloc: Global, value: &Value, at: usize) -> Result<(), Stop>
     ensures fit { IfOk result (λ _. IsTrue (is_order value.now)) }
-    ensures fault { IfErr result (StopsWhere IsAsked at (value_toks value.now)) }
+    ensures fault { IfErr result (StopsUnless (is_order value.now) at (value_toks value.now)) }
 {
     match word_value(value) {
         Some(word) if order_word(word.as_str()).is_some() => Ok(()),

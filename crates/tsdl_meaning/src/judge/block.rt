@@ -1,7 +1,7 @@
 //! The first flaw of a block: of an environment, or of a trace, a stream, an event or a clock with its attributes and scopes.
 
 ghost use Rattle.std.specs.Prelude.{◌≡◌, false, List, [], ◌∷◌, IfOk, IfErr, IsTrue, codes};
-ghost use Rattle.tsdl_meaning.specs.Words.{Atom, mark, word, scope_toks, items_toks, braced, fact_toks, named_fact_toks, IsTwice, StopsWhere, StopsAmong, IsAsked, EndsFacts, AreNoted, AreNamed, word_of, IsBegun, IsFlawlessBlock, AddsScope, IsEnded, IsNumberedAnew, scopes_of, needed, named_rules, first_texts, flat_map, is_some, fact_meaning, MeanEntries, AddsFact, kind_of};
+ghost use Rattle.tsdl_meaning.specs.Words.{Atom, mark, word, scope_toks, items_toks, braced, fact_toks, named_fact_toks, IsTwice, StopsWhere, StopsAmong, StopsUnless, EndsFacts, AreNoted, AreNamed, word_of, IsBegun, IsFlawlessBlock, AddsScope, IsEnded, IsNumberedAnew, scopes_of, needed_by, named_rules, first_texts, flat_map, is_some, fact_meaning, MeanEntries, AddsFact, kind_of};
 ghost use Rattle.tsdl_grammar.specs.declared.token.Mark.TheVariants as marks;
 ghost use Rattle.tsdl_grammar.specs.declared.fault.MetaFaultKind.TheVariants as faults;
 
@@ -16,7 +16,7 @@ use crate::lookup::{attr_in, has_words};
 use crate::scope_rule::ScopeRule;
 use crate::stream::{EVENT_CONTEXT, EVENT_HEADER, FIELDS, PACKET_CONTEXT, SPECIFIC_CONTEXT};
 use crate::trace::PACKET_HEADER;
-use crate::value::whole;
+use crate::value::{WHOLE, whole};
 use ctf_types::MAX_ENVIRONMENT;
 use std::alloc::Global;
 use tsdl_flaw::{Fault, Flaw, Limit, Numbered, Remedy, Spelled, Stop};
@@ -152,7 +152,7 @@ fn is_numbered_twice(judging: &Judging, items: &[Item]) -> bool
 
 /// The attributes that a block has to have, and what is expected in words.
 fn needed(kind: BlockKind) -> &'static [(&'static str, &'static str)]
-    ensures { first_texts result.now ≡ needed kind }
+    ensures { first_texts result.now ≡ needed_by (word_of kind) }
 {
     match kind {
         BlockKind::Trace => &[
@@ -195,13 +195,14 @@ fn judge_entry(before: &[NamedFact], fact: &NamedFact, at: usize) -> Result<(), 
 }
 
 /// Judges what an entry has: a number is one from -2^63 to 2^63 - 1.
+#[tactic(auto, using(crate::proofs::Misfits::misfits))]
 fn judge_fact(fact: &Fact, at: usize) -> Result<(), Stop>
     ensures meant { IfOk result (λ _. IsTrue (is_some (fact_meaning fact.now))) }
-    ensures fault { IfErr result (StopsWhere IsAsked at (fact_toks fact.now)) }
+    ensures fault { IfErr result (StopsUnless (is_some (fact_meaning fact.now)) at (fact_toks fact.now)) }
 {
     match fact {
         Fact::Number(number) if whole(*number).is_none() => {
-            Err(misfit_number(number, at, "a number from -2^63 to 2^63 - 1"))
+            Err(misfit_number(number, at, WHOLE))
         }
         Fact::Number(_) | Fact::Text(_) => Ok(()),
     }

@@ -1,18 +1,18 @@
 //! The first flaw of a member's kind: an integer, an enumeration or a string, and of its attributes.
 
 ghost use Rattle.std.specs.Prelude.{◌∷◌, ◌++◌, IsSome, IfOk, IfErr, ◌≡◌, IsTrue};
-ghost use Rattle.tsdl_meaning.specs.Words.{flat_map, kind_toks, entry_toks, next_entry_toks, word, attr_toks, attrs_toks, value_toks, entry_meaning, kind_meaning, StopsAmong, StopsWhere, IsAsked, IsBehindBrace, IsBehindWord, AreRanges, AddsAttribute, is_among, words_of, of_integer, tree_of, type_word, own_attrs, own_asked, is_some, order_value, base_value, clock_value, names_of, AreNamed, fits, is_fit};
-ghost use Rattle.tsdl_grammar.specs.declared.token.Mark.TheVariants as marks;
+ghost use Rattle.tsdl_meaning.specs.Words.{flat_map, kind_toks, entry_toks, next_entry_toks, word, attr_toks, attrs_toks, value_toks, entry_meaning, kind_meaning, StopsAmong, StopsWhere, StopsUnless, IsBehindBrace, IsAttribute, IsTypeBegun, is_any_order, is_base, is_encoding, is_mapping, AreRanges, AddsAttribute, is_among, words_of, of_integer, tree_of, type_word, own_attrs, own_asked, is_some, order_value, base_value, clock_value, names_of, fits, is_fit};
 
 use crate::enumeration::rises;
 use crate::integer::{
-    BASES, INTEGER_ATTRIBUTES, INTEGER_PARTS, base_value, clock_value, order_value, orders_of,
+    BASE_NUMBERS, BASES, INTEGER_ATTRIBUTES, INTEGER_PARTS, base_value, clock_value, is_mapping,
+    order_words, orders_of,
 };
 use crate::judge::block::Judging;
 use crate::judge::clock_words::clock_words;
 use crate::judge::names::Names;
 use crate::judge::value::{
-    judge_align, judge_flag, judge_natural, misfit, number, unread, unread_order,
+    NUMBER, judge_align, judge_flag, judge_natural, misfit, unread, unread_order,
 };
 use crate::lookup::{attr, is_name_among};
 use crate::member::{ENCODINGS, STRING_ATTRIBUTES, STRING_PARTS, is_encoding};
@@ -124,7 +124,7 @@ fn judge_attribute(
 ) -> Result<(), Stop>
     ensures among { IfOk result (λ _. IsTrue (is_among (own_attrs kind) (words_of attribute.now.name))) }
     ensures adds { IfOk result (λ _. AddsAttribute (own_asked judging.now.survey.now.known kind) names.old.names attribute.now names.new.names) }
-    ensures fault { IfErr result (StopsWhere (λ front. AreNamed front marks.Equals names.old.names) at (attr_toks attribute.now)) }
+    ensures fault { IfErr result (StopsWhere (IsTypeBegun (type_word kind) names.old.names) at (attr_toks attribute.now)) }
 {
     if !is_name_among(attributes_of(kind), &attribute.name) {
         let remedy = Remedy::Instead(parts_of(kind));
@@ -157,7 +157,7 @@ fn parts_of(kind: TypeKind) -> &'static str {
 }
 
 /// What the attribute of this name has, behind its name and `=`.
-#[tactic(auto, using(crate::proofs::Misfits::asked_by_word))]
+#[tactic(auto, using(crate::proofs::Misfits::in_asked))]
 fn judge_value(
     judging: &Judging,
     kind: TypeKind,
@@ -166,7 +166,7 @@ fn judge_value(
     at: usize,
 ) -> Result<(), Stop>
     ensures fit { IfOk result (λ _. IsTrue (fits (own_asked judging.now.survey.now.known kind) word.now value.now)) }
-    ensures fault { IfErr result (StopsWhere (IsBehindWord word.now) at (value_toks value.now)) }
+    ensures fault { IfErr result (StopsWhere (IsAttribute (type_word kind) word.now) at (value_toks value.now)) }
 {
     match kind {
         TypeKind::Integer => match word {
@@ -174,70 +174,81 @@ fn judge_value(
                 1..=64 => Ok(()),
                 _ => Err(misfit(value, at, "a size from 1 to 64 bits")),
             },
-            "align" => judge_align(number(value, at)?, at),
+            "align" => match value {
+                Value::Number(number) => judge_align(number, at),
+                Value::Text(_) | Value::Name(_) => Err(misfit(value, at, NUMBER)),
+            },
             "signed" => judge_flag(value, at),
             "byte_order" => judge_order(judging, value, at),
             "base" => judge_base(judging, value, at),
             "map" => judge_map(judging, value, at),
             _ => Ok(()),
         },
-        TypeKind::Text if is_encoding(value) => Ok(()),
-        TypeKind::Text => Err(unread(judging.alloc, value, at, ENCODINGS)),
+        TypeKind::Text => match word {
+            "encoding" => judge_encoding(judging, value, at),
+            _ => Ok(()),
+        },
     }
 }
 
+/// The word of an encoding that is read.
+#[tactic(auto, using(crate::proofs::Misfits::misfits))]
+fn judge_encoding(judging: &Judging, value: &Value, at: usize) -> Result<(), Stop>
+    ensures fit { IfOk result (λ _. IsTrue (is_encoding value.now)) }
+    ensures fault { IfErr result (StopsUnless (is_encoding value.now) at (value_toks value.now)) }
+{
+    if is_encoding(value) {
+        return Ok(());
+    }
+    Err(unread(judging.alloc, value, at, ENCODINGS))
+}
+
 /// `native`, or the trace's own byte order.
+#[tactic(auto, using(crate::proofs::Misfits::any_order_unread))]
 fn judge_order(judging: &Judging, value: &Value, at: usize) -> Result<(), Stop>
     ensures fit { IfOk result (λ _. IsTrue (is_some (order_value judging.now.survey.now.known.order value.now))) }
-    ensures fault { IfErr result (StopsWhere IsAsked at (value_toks value.now)) }
+    ensures fault { IfErr result (StopsUnless (is_any_order value.now) at (value_toks value.now)) }
 {
+    let survey = judging.survey;
+    let trace = survey.has_order.then_some(survey.known.order());
     match word_value(value) {
-        Some(word) if !judging.survey.has_order && is_among(word.as_str(), &["native"]) => Ok(()),
-        Some(_)
-            if judging.survey.has_order
-                && order_value(judging.survey.known.order(), value).is_some() => Ok(()),
-        _ => {
-            let trace = judging
-                .survey
-                .has_order
-                .then_some(judging.survey.known.order());
-            Err(unread_order(judging.alloc, value, at, orders_of(trace)))
-        }
+        Some(word) if is_among(word.as_str(), order_words(trace)) => Ok(()),
+        _ => Err(unread_order(judging.alloc, value, at, orders_of(trace))),
     }
 }
 
 /// `2 binary b`, `8 octal oct o`, `10 decimal dec d i u` or `16 hexadecimal hex x X p`.
+#[tactic(auto, using(crate::proofs::Misfits::misfits))]
 fn judge_base(judging: &Judging, value: &Value, at: usize) -> Result<(), Stop>
     ensures fit { IfOk result (λ _. IsTrue (is_some (base_value value.now))) }
-    ensures fault { IfErr result (StopsWhere IsAsked at (value_toks value.now)) }
+    ensures fault { IfErr result (StopsUnless (is_base value.now) at (value_toks value.now)) }
 {
     if base_value(value).is_some() {
         return Ok(());
     }
     if let Value::Number(_) = value {
         judge_natural(value, at)?;
-        return Err(misfit(value, at, "2, 8, 10 or 16"));
+        return Err(misfit(value, at, BASE_NUMBERS));
     }
     Err(unread(judging.alloc, value, at, BASES))
 }
 
 /// `clock.NAME.value`. A clock that is not there is a flaw of its name.
+#[tactic(auto, using(crate::proofs::Misfits::misfits))]
 fn judge_map(judging: &Judging, value: &Value, at: usize) -> Result<(), Stop>
     ensures fit { IfOk result (λ _. IsTrue (is_some (clock_value judging.now.survey.now.known.clocks value.now))) }
-    ensures fault { IfErr result (StopsWhere IsAsked at (value_toks value.now)) }
+    ensures fault { IfErr result (StopsUnless (is_mapping value.now) at (value_toks value.now)) }
 {
     if clock_value(&judging.survey.known, value).is_some() {
         return Ok(());
     }
-    let Value::Name(name) = value else {
+    let Value::Name(_) = value else {
         return Err(misfit(value, at, "a name"));
     };
-    match name.rest.as_slice() {
-        [_, last] if name.first.as_str() == "clock" && last.as_str() == "value" => {
-            let place = at.saturating_add(2);
-            let clocks = clock_words(judging.alloc, judging.survey.known.clocks())?;
-            Err(Stop::at_atom(place, Flaw::NoClock(clocks)))
-        }
-        _ => Err(misfit(value, at, "`clock.NAME.value`")),
+    if !is_mapping(value) {
+        return Err(misfit(value, at, "`clock.NAME.value`"));
     }
+    let place = at.saturating_add(2);
+    let clocks = clock_words(judging.alloc, judging.survey.known.clocks())?;
+    Err(Stop::at_atom(place, Flaw::NoClock(clocks)))
 }

@@ -1,44 +1,40 @@
 //! What attributes have, judged by what each one may have. A flaw of a value stands at its first atom.
-#![tactic(auto, using(crate::proofs::Misfits::asked_by_align))]
+#![tactic(auto, using(crate::proofs::Misfits::misfits))]
 
-ghost use Rattle.std.specs.Prelude.{◌≡◌, Some, IsSome, IsTrue, IfOk, IfErr};
-ghost use Rattle.tsdl_meaning.specs.Words.{is_some, value_toks, number_toks, natural, natural_value, whole_value, text_value, name_value, flag_value, uuid_value, align_of, StopsWhere, IsAsked, IsBehindAlign};
+ghost use Rattle.std.specs.Prelude.{◌≡◌, false, Some, IsSome, IsTrue, IfOk, IfErr};
+ghost use Rattle.tsdl_meaning.specs.Words.{value_toks, number_toks, natural, natural_value, name_value, align_of, is_some, is_natural, is_whole, is_text, is_label, is_flag, is_identity, StopsUnless, StopsWhere, AsksAlignment};
+ghost use Rattle.tsdl_meaning.specs.Judging.{is_name};
 
+use crate::integer::names_order;
 use crate::structure::alignment;
-use crate::value::{flag_value, name_value, natural, text_value, uuid_value, whole, word_value};
-use ctf_types::{LARGEST_ALIGN, Text, is_among};
+use crate::value::{
+    FLAGS, WHOLE, flag_value, name_value, natural, text_value, uuid_value, whole, word_value,
+};
+use ctf_types::{LARGEST_ALIGN, Text};
 use std::alloc::Global;
 use tsdl_flaw::{Flaw, Limit, Remedy, Stop};
 use tsdl_grammar::{Number, Value};
 
-/// The flaw of a value that does not fit, where a mark asks for one.
+/// What is expected where another value stands for a number.
+pub(crate) const NUMBER: &str = "a number";
+
+/// The flaw of a value that does not fit.
 pub(crate) fn misfit(value: &Value, at: usize, expected: &'static str) -> Stop
-    ensures { StopsWhere IsAsked at (value_toks value.now) result }
+    ensures { StopsUnless false at (value_toks value.now) result }
 {
     Stop::expected(at, value, expected)
 }
 
 /// The same of a number.
 pub(crate) fn misfit_number(number: &Number, at: usize, expected: &'static str) -> Stop
-    ensures { StopsWhere IsAsked at (number_toks number.now) result }
+    ensures { StopsUnless false at (number_toks number.now) result }
 {
     Stop::expected(at, number, expected)
 }
 
-/// The number of a value that has to be one.
-pub(crate) fn number(value: &Value, at: usize) -> Result<&Number, Stop>
-    ensures fault { IfErr result (StopsWhere IsAsked at (value_toks value.now)) }
-    ensures number { IfOk result (λ n. value.now ≡ Value.Number n.now) }
-{
-    match value {
-        Value::Number(number) => Ok(number),
-        Value::Text(_) | Value::Name(_) => Err(misfit(value, at, "a number")),
-    }
-}
-
 /// A number that is not below 0.
 pub(crate) fn judge_number(number: &Number, at: usize) -> Result<u64, Stop>
-    ensures fault { IfErr result (StopsWhere IsAsked at (number_toks number.now)) }
+    ensures fault { IfErr result (StopsUnless (is_some (natural number.now)) at (number_toks number.now)) }
     ensures value { IfOk result (λ n. natural number.now ≡ Some n) }
 {
     match natural(*number) {
@@ -49,26 +45,30 @@ pub(crate) fn judge_number(number: &Number, at: usize) -> Result<u64, Stop>
 
 /// A number that is not below 0.
 pub(crate) fn judge_natural(value: &Value, at: usize) -> Result<u64, Stop>
-    ensures fault { IfErr result (StopsWhere IsAsked at (value_toks value.now)) }
+    ensures fault { IfErr result (StopsUnless (is_natural value.now) at (value_toks value.now)) }
     ensures value { IfOk result (λ n. natural_value value.now ≡ Some n) }
 {
-    judge_number(number(value, at)?, at)
+    match value {
+        Value::Number(number) => judge_number(number, at),
+        Value::Text(_) | Value::Name(_) => Err(misfit(value, at, NUMBER)),
+    }
 }
 
 /// Judges whether this is a number from -2^63 to 2^63 - 1.
 pub(crate) fn judge_whole(value: &Value, at: usize) -> Result<(), Stop>
-    ensures fault { IfErr result (StopsWhere IsAsked at (value_toks value.now)) }
-    ensures value { IfOk result (λ _. IsTrue (is_some (whole_value value.now))) }
+    ensures fault { IfErr result (StopsUnless (is_whole value.now) at (value_toks value.now)) }
+    ensures value { IfOk result (λ _. IsTrue (is_whole value.now)) }
 {
-    match whole(*number(value, at)?) {
-        Some(_) => Ok(()),
-        None => Err(misfit(value, at, "a number from -2^63 to 2^63 - 1")),
+    match value {
+        Value::Number(number) if whole(*number).is_some() => Ok(()),
+        Value::Number(_) => Err(misfit(value, at, WHOLE)),
+        Value::Text(_) | Value::Name(_) => Err(misfit(value, at, NUMBER)),
     }
 }
 
 /// Judges an alignment in bits, a power of two.
 pub(crate) fn judge_align(number: &Number, at: usize) -> Result<(), Stop>
-    ensures fault { IfErr result (StopsWhere IsBehindAlign at (number_toks number.now)) }
+    ensures fault { IfErr result (StopsWhere (AsksAlignment number.now) at (number_toks number.now)) }
     ensures aligned { IfOk result (λ _. IsSome (align_of (Some number.now))) }
 {
     let align = judge_number(number, at)?;
@@ -83,8 +83,8 @@ pub(crate) fn judge_align(number: &Number, at: usize) -> Result<(), Stop>
 
 /// A string.
 pub(crate) fn judge_text(value: &Value, at: usize) -> Result<(), Stop>
-    ensures fault { IfErr result (StopsWhere IsAsked at (value_toks value.now)) }
-    ensures value { IfOk result (λ _. IsTrue (is_some (text_value value.now))) }
+    ensures fault { IfErr result (StopsUnless (is_text value.now) at (value_toks value.now)) }
+    ensures value { IfOk result (λ _. IsTrue (is_text value.now)) }
 {
     match text_value(value) {
         Some(_) => Ok(()),
@@ -94,19 +94,19 @@ pub(crate) fn judge_text(value: &Value, at: usize) -> Result<(), Stop>
 
 /// Judges whether this is a string that an identifier of a trace or a clock parses from.
 pub(crate) fn judge_uuid(value: &Value, at: usize) -> Result<(), Stop>
-    ensures fault { IfErr result (StopsWhere IsAsked at (value_toks value.now)) }
-    ensures value { IfOk result (λ _. IsTrue (is_some (uuid_value value.now))) }
+    ensures fault { IfErr result (StopsUnless (is_identity value.now) at (value_toks value.now)) }
+    ensures value { IfOk result (λ _. IsTrue (is_identity value.now)) }
 {
-    judge_text(value, at)?;
-    match uuid_value(value) {
-        Some(_) => Ok(()),
-        None => Err(misfit(value, at, "a string with a UUID")),
+    if uuid_value(value).is_some() {
+        return Ok(());
     }
+    judge_text(value, at)?;
+    Err(misfit(value, at, "a string with a UUID"))
 }
 
 /// The name of a clock or an event: an identifier or a string.
 pub(crate) fn judge_label(value: &Value, at: usize) -> Result<&Text, Stop>
-    ensures fault { IfErr result (StopsWhere IsAsked at (value_toks value.now)) }
+    ensures fault { IfErr result (StopsUnless (is_label value.now) at (value_toks value.now)) }
     ensures value { IfOk result (λ t. name_value value.now ≡ Some t.now) }
 {
     match name_value(value) {
@@ -117,31 +117,31 @@ pub(crate) fn judge_label(value: &Value, at: usize) -> Result<&Text, Stop>
 
 /// Judges a flag, by one of its words or as 1 or 0.
 pub(crate) fn judge_flag(value: &Value, at: usize) -> Result<(), Stop>
-    ensures fault { IfErr result (StopsWhere IsAsked at (value_toks value.now)) }
-    ensures value { IfOk result (λ _. IsTrue (is_some (flag_value value.now))) }
+    ensures fault { IfErr result (StopsUnless (is_flag value.now) at (value_toks value.now)) }
+    ensures value { IfOk result (λ _. IsTrue (is_flag value.now)) }
 {
+    if flag_value(value).is_some() {
+        return Ok(());
+    }
     if let Value::Number(_) = value {
         judge_natural(value, at)?;
     }
-    match flag_value(value) {
-        Some(_) => Ok(()),
-        None => Err(misfit(value, at, "`true`, `TRUE`, `1`, `false`, `FALSE` or `0`")),
-    }
+    Err(misfit(value, at, FLAGS))
 }
 
 /// The flaw of a value that is none of these, which are told in words. Another name is not supported.
 pub(crate) fn unread(alloc: Global, value: &Value, at: usize, expected: &'static str) -> Stop
-    ensures { StopsWhere IsAsked at (value_toks value.now) result }
+    ensures { StopsUnless (is_name value.now) at (value_toks value.now) result }
 {
     unfit(alloc, value, at, expected, Remedy::Instead(expected))
 }
 
 /// The flaw of a value that is none of the byte orders that these words tell. Another byte order is converted.
 pub(crate) fn unread_order(alloc: Global, value: &Value, at: usize, expected: &'static str) -> Stop
-    ensures { StopsWhere IsAsked at (value_toks value.now) result }
+    ensures { StopsUnless (is_name value.now) at (value_toks value.now) result }
 {
     let remedy = match word_value(value) {
-        Some(word) if is_among(word.as_str(), &["be", "le", "network"]) => Remedy::Conversion,
+        Some(word) if names_order(word.as_str()) => Remedy::Conversion,
         _ => Remedy::Instead(expected),
     };
     unfit(alloc, value, at, expected, remedy)
@@ -149,7 +149,7 @@ pub(crate) fn unread_order(alloc: Global, value: &Value, at: usize, expected: &'
 
 /// The same, and what can be done about another name.
 fn unfit(alloc: Global, value: &Value, at: usize, expected: &'static str, remedy: Remedy) -> Stop
-    ensures { StopsWhere IsAsked at (value_toks value.now) result }
+    ensures { StopsUnless (is_name value.now) at (value_toks value.now) result }
 {
     match value {
         Value::Name(name) => Stop::unsupported(alloc, at, name, remedy),

@@ -1,4 +1,4 @@
-use Rattle.std.proofs.Common.{arith, ◌∷◌, ◌++◌, take, refl, sym, subst, append_assoc, codes, []}
+use Rattle.std.proofs.Common.{arith, ◌∷◌, ◌++◌, take, refl, subst, codes, []}
 use Rattle.tsdl_meaning.proofs.TextWords.{StopsAmong, behind_item, braced, flat_map, mark, named_fact_toks, take_all, word}
 use Rattle.tsdl_grammar.specs.declared.token.Mark.TheVariants as marks
 use Rattle.tsdl_meaning.proofs.FlawlessFacts.{Facts, fact_more, no_facts, facts_mean}
@@ -18,7 +18,7 @@ returns-in_err-judge_entry-clause-fault c =
     (λ front behind.
     in_item named_fact_toks facts i c.index-facts-index.result toks opening (mark marks.CloseBrace ∷ []) front behind c.args.at c.loop-index.next stop (omega arith) c.index-facts-index.is refl
     c.loop-index.invariant.place
-    (λ after. c.in_err-judge_entry.ensures.fault (front ++ (opening ++ before)) after (front ++ word (codes "env") ∷ [], sym (append_assoc front (word (codes "env") ∷ []) (mark marks.OpenBrace ∷ before)))))
+    (λ after. c.in_err-judge_entry.ensures.fault (front ++ (opening ++ before)) after (front, refl)))
 
 pub loop-index-preserved : goal.loop-index-preserved
 loop-index-preserved c =

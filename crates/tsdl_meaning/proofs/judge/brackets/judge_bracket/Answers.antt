@@ -4,7 +4,7 @@ use Rattle.tsdl_meaning.proofs.JudgedParts.{ends_more, handed}
 use Rattle.tsdl_grammar.specs.declared.token.Mark.TheVariants as marks
 use Rattle.tsdl_grammar.specs.declared.tree.Bracket.TheVariants as brackets
 use Rattle.tsdl_meaning.proofs.FlawlessTypes.{count_more}
-use Rattle.tsdl_meaning.proofs.Misfits.{in_brackets}
+use Rattle.tsdl_meaning.proofs.Misfits.{length_unfit}
 use Rattle.tsdl_meaning.proofs.StopsInMembers.{in_bracket, long_length}
 use Rattle.tsdl_meaning.proofs.judge.brackets.judge_bracket.Goals as goal
 
@@ -17,7 +17,7 @@ returns-in_err-length-in-Count-clause-fault c =
     c.from_residual.ensures.1
     (λ done s.
     in_bracket (IsBehindBrackets done) (IsInBrackets done) (number_toks n) c.args.at c.saturating_add-place.result stop c.saturating_add-place.ensures
-    (λ front ends. ends_more front (flat_map bracket_toks done) (mark marks.OpenBracket ∷ []) ends) (λ front behind ends. c.in_err-length-in-Count.ensures.fault front behind (in_brackets done front ends))))
+    (λ front ends. ends_more front (flat_map bracket_toks done) (mark marks.OpenBracket ∷ []) ends) (λ front behind ends. c.in_err-length-in-Count.ensures.fault.stops front behind (length_unfit done n front ends))))
 
 pub returns-in-Some-clause-fault : goal.returns-in-Some-clause-fault
 returns-in-Some-clause-fault c = λ done s.

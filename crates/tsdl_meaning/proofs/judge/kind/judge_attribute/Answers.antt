@@ -1,8 +1,8 @@
-use Rattle.std.proofs.Common.{◌≡◌, true, ℕ, List, Some, ◌∷◌, ◌++◌, sym, ap, ◌∙◌, subst, refl, append_assoc}
+use Rattle.std.proofs.Common.{◌≡◌, true, ℕ, List, Some, [], ◌∷◌, ◌++◌, sym, ap, ◌∙◌, subst, append_assoc}
 use Rattle.tsdl_grammar.specs.declared.token.Mark.TheVariants as marks
-use Rattle.tsdl_meaning.proofs.TextWords.{AreNamed, Atom, IsBehindWord, attr_toks, is_among, mark, name_toks, own_asked, own_attrs, value_toks, words_of}
+use Rattle.tsdl_meaning.proofs.TextWords.{IsAttribute, IsTypeBegun, attr_toks, begun, is_among, mark, name_toks, own_asked, own_attrs, type_word, value_toks, word, words_of}
 use Rattle.tsdl_meaning.proofs.BlockAttributes.{in_name, in_value, value_adds}
-use Rattle.tsdl_meaning.proofs.JudgedParts.{ok_from, stops_same}
+use Rattle.tsdl_meaning.proofs.JudgedParts.{ends_more, ok_from, stops_same}
 use Rattle.tsdl_meaning.proofs.StopsInAttributes.{attr_parts}
 use Rattle.tsdl_meaning.proofs.judge.kind.judge_attribute.Goals as goal
 
@@ -16,14 +16,15 @@ pub returns-in_err-add-clause-fault : goal.returns-in_err-add-clause-fault
 returns-in_err-add-clause-fault c =
     let a = c.args.attribute.now in
     let names = c.args.names.now.names in
-    in_name (λ (front : List Atom). AreNamed front marks.Equals names) marks.Equals names c.from_residual.result c.in_err-add.field-0.0 a.name (attr_toks a) (value_toks a.value) c.args.at (attr_parts a) c.from_residual.ensures.1
-    (λ front p. p) c.in_err-add.ensures.fault
+    in_name (IsTypeBegun (type_word c.args.kind) names) marks.Equals names c.from_residual.result c.in_err-add.field-0.0 a.name (attr_toks a) (value_toks a.value) c.args.at (attr_parts a) c.from_residual.ensures.1
+    (λ front p. p.named) c.in_err-add.ensures.fault
 
 pub returns-clause-fault : goal.returns-clause-fault
 returns-clause-fault c =
     let w = c.as_str.result.now in
-    in_value (λ (front : List Atom). AreNamed front marks.Equals c.args.names.now.names) (IsBehindWord w) c.judge_value.result c.args.attribute.now w c.args.at c.saturating_add-behind.result
-    (sym c.in-Some.ensures ∙ ap (λ (n : List ℕ). Some n) (sym c.as_str.ensures)) c.saturating_add-behind.ensures (λ front p. (front, refl)) c.judge_value.ensures.fault
+    let type = type_word c.args.kind in
+    in_value (IsTypeBegun type c.args.names.now.names) (IsAttribute type w) c.judge_value.result c.args.attribute.now w c.args.at c.saturating_add-behind.result
+    (sym c.in-Some.ensures ∙ ap (λ (n : List ℕ). Some n) (sym c.as_str.ensures)) c.saturating_add-behind.ensures (λ front p. (p.items, ends_more front (begun type p.items) (word w ∷ mark marks.Equals ∷ []) p.ends)) c.judge_value.ensures.fault
 
 pub returns-clause-among : goal.returns-clause-among
 returns-clause-among c =

@@ -4,7 +4,7 @@ use Rattle.tsdl_meaning.proofs.TextWords.{Attribute, StandsBehind, StopsAmong, a
 use Rattle.tsdl_meaning.proofs.Fronts.{next_item}
 use Rattle.tsdl_meaning.proofs.Misfits.{size_missed}
 use Rattle.tsdl_meaning.proofs.JudgedParts.{handed, in_item, in_part}
-use Rattle.tsdl_meaning.proofs.StopsInAttributes.{attributes_named, list_opening}
+use Rattle.tsdl_meaning.proofs.StopsInAttributes.{list_opening, type_begun}
 use Rattle.tsdl_meaning.proofs.FlawlessTypes.{Own, own_more, type_means, seen}
 use Rattle.tsdl_meaning.proofs.judge.kind.judge_attributes.Goals as goal
 use Rattle.tsdl_meaning.proofs.judge.kind.judge_attributes.Goals.{in-Integer+else-is_none, in-Text-1}
@@ -23,7 +23,7 @@ returns-in_err-judge_attribute-clause-fault c =
     c.attribute-item.is refl c.loop-attribute.invariant.stands
     (λ after.
     c.in_err-judge_attribute.ensures.fault (front ++ (list_opening w ++ flat_map attr_toks done)) after
-    (attributes_named front w names done c.loop-attribute.invariant.own.attributes.named.kept)))
+    (type_begun front w names done c.loop-attribute.invariant.own.attributes.named.kept)))
 
 pub loop-attribute-preserved : goal.loop-attribute-preserved
 loop-attribute-preserved c =

@@ -1,6 +1,6 @@
 use Rattle.std.proofs.Common.{List, ◌∷◌, ◌++◌, Option, Some, codes, take, sym, ap, ◌∙◌, subst, arith, append_assoc, []}
 use Rattle.tsdl_grammar.specs.declared.token.Mark.TheVariants as marks
-use Rattle.tsdl_meaning.proofs.TextWords.{IsBehindAlign, IsSome, MemberTree, Number, StandsBehind, StopsAmong, StopsWhere, align_of, align_toks, behind_item, flat_map, is_some, mark, member_toks, number_toks, struct_toks, take_all, word, IfErr-weaker, IfOk-weaker}
+use Rattle.tsdl_meaning.proofs.TextWords.{AsksAlignment, IsSome, MemberTree, Number, StandsBehind, StopsAmong, StopsWhere, align_of, align_toks, behind_item, flat_map, is_some, mark, member_toks, number_toks, struct_toks, take_all, word, IfErr-weaker, IfOk-weaker}
 use Rattle.tsdl_meaning.specs.FlawlessStructures.{IsFlawless}
 use Rattle.tsdl_meaning.proofs.JudgedParts.{handed, in_item}
 use Rattle.tsdl_meaning.proofs.Fronts.{next_item}
@@ -48,7 +48,7 @@ returns-clause-fault c =
     subst (λ (l : List MemberTree). StandsBehind c.args.at (struct_opening ++ flat_map member_toks l) c.loop-tree.next)
     (take_all c.loop-tree.tree-index c.as_slice-trees.result.now (omega arith) ∙ c.as_slice-trees.ensures) c.loop-tree.invariant.stands
     in
-    IfErr-weaker c.judge_align.result (StopsWhere IsBehindAlign c.saturating_add.result (number_toks c.in-Some.number)) (StopsAmong c.args.at (struct_toks s))
+    IfErr-weaker c.judge_align.result (StopsWhere (AsksAlignment c.in-Some.number) c.saturating_add.result (number_toks c.in-Some.number)) (StopsAmong c.args.at (struct_toks s))
     (λ stop h front behind. in_align s c.in-Some.number front behind c.args.at c.loop-tree.next c.saturating_add.result stop c.in-Some.is stands c.saturating_add.ensures h)
     c.judge_align.ensures.fault
 

@@ -1,5 +1,5 @@
-use Rattle.tsdl_meaning.proofs.Misfits.{unfit_number}
+use Rattle.std.proofs.Common.{refl}
 use Rattle.tsdl_meaning.proofs.judge.value.misfit_number.Goals as goal
 
 pub returns : goal.returns
-returns c = λ front behind asked. c.expected.ensures front behind (unfit_number c.args.number.now front asked)
+returns c = record { stops = λ front behind misfit. c.expected.ensures front behind (misfit refl) }

@@ -1,0 +1,18 @@
+use Rattle.std.proofs.Common.{sym, ap, ◌∙◌}
+use Rattle.tsdl_meaning.specs.Judging.{is_name}
+use Rattle.tsdl_meaning.proofs.TextWords.{StopsUnless, is_base, is_natural, is_some, value_toks}
+use Rattle.tsdl_meaning.proofs.JudgedParts.{handed}
+use Rattle.tsdl_meaning.proofs.Misfits.{misfits}
+use Rattle.tsdl_meaning.proofs.judge.kind.judge_base.Goals as goal
+
+pub returns-in_err-judge_natural-clause-fault : goal.returns-in_err-judge_natural-clause-fault
+returns-in_err-judge_natural-clause-fault c =
+    let v = c.args.value.now in
+    let stop = c.in_err-judge_natural.field-0.0 in
+    handed c.from_residual.result stop (StopsUnless (is_base v) c.args.at (value_toks v)) c.from_residual.ensures.1
+    (misfits (is_base v) (is_natural v) c.args.at (value_toks v) stop (sym (ap is_some c.base_value.ensures) ∙ sym c.is_some.ensures ∙ c.if-is_some.false) c.in_err-judge_natural.ensures.fault)
+
+pub returns-clause-fault : goal.returns-clause-fault
+returns-clause-fault c =
+    let v = c.args.value.now in
+    misfits (is_base v) (is_name v) c.args.at (value_toks v) c.unread.result (sym (ap is_some c.base_value.ensures) ∙ sym c.is_some.ensures ∙ c.if-is_some.false) c.unread.ensures
